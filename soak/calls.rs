@@ -160,6 +160,7 @@ calls! {
     fn ask_pieces(form: u8, code: u8, source: &[u8], script: &[u8]);
     fn ask_pieces_at(source: &[u8], needle: &[u8], script: &[u8]);
     fn ask_counts(code: u8, source: &[u8], script: &[u8]);
+    fn ask_clones(code: u8, at: usize, source: &[u8], script: &[u8]);
     fn ask_walks(code: u8, source: &[u8], script: &[u8]);
     fn ask_chunks(source: &[u8], script: &[u8]);
     fn ask_class(class: u8, source: &[u8], script: &[u8]);
@@ -180,7 +181,7 @@ calls! {
     fn ask_copies(source: &[u8]);
     fn ask_turned(source: &[u8]);
     fn ask_extended(capacity: usize, source: &[u8]);
-    fn ask_growths(is_small: bool, source: &[u8]);
+    fn ask_growths(form: u8, source: &[u8]);
     fn ask_formatted(source: &[u8], first: &[u8], second: &[u8]);
     fn ask_both_runs(source: &[u8], texts: &[u8], steps: &[Step]);
     fn ask_printed(form: u8, source: &[u8]);

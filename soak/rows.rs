@@ -11,6 +11,7 @@ mod long_searches;
 mod maps;
 mod memory;
 mod numbers;
+mod picks;
 mod places;
 mod readers;
 mod recipes;

@@ -41,13 +41,7 @@ pub fn ask_all(source: &[u8], asked: &mut Asked) {
 pub fn ask_round_trips(text: &[u8], asked: &mut Asked) {
     calls::ask_round_trips(asked, text);
     let (want, some) = (&mut asked.want, Needs::memory_if(!text.is_empty()));
-    want.copy(text);
-    // Characters are appended one by one if the allocation for all fails.
-    want.absorbs(some);
-    (0..2).for_each(|_| want.copy(text));
-    // A shared text is in an allocation also if it is empty.
-    (0..2).for_each(|_| want.allocated(Needs::Memory, text));
-    (0..2).for_each(|_| want.copy(text));
+    (0..3).for_each(|_| want.copy(text));
     let start = want.bytes.len();
     want.put((text, text));
     want.fails(some, start, Failed);
@@ -94,18 +88,10 @@ pub fn ask_character_written(ch: char, text: &[u8], asked: &mut Asked) {
     appended(text, ch.to_string().as_bytes(), some, Needs::Memory, &mut asked.want);
 }
 
-/// The characters collected, and then appended; the pieces at a character collected, and then the lines appended.
+/// The pieces at a character collected, and then the lines appended.
 pub fn ask_collected(code: u8, text: &[u8], asked: &mut Asked) {
     calls::ask_collected(asked, code, text);
-    asked.want.put((text, true, text.repeat(2)));
-    // Characters are appended one by one if the allocation for all fails.
-    asked.want.absorbs(Needs::memory_if(!text.is_empty()));
-    put_collected(code, text, &mut asked.want);
-}
-
-/// The pieces at a character collected, and then the lines appended.
-fn put_collected(code: u8, text: &[u8], want: &mut Answer) {
-    let whole = want.bytes.len();
+    let want = &mut asked.want;
     // Grows as a string does.
     let mut string = Vec::new();
     text.split(|other| *other == code).for_each(|piece| string.extend_from_slice(piece));
@@ -118,7 +104,7 @@ fn put_collected(code: u8, text: &[u8], want: &mut Answer) {
         string.extend_from_slice(line.text);
     }
     want.put((true, &string));
-    want.fails(Needs::memory_if(is_some), whole, Failed);
+    want.fails(Needs::memory_if(is_some), 0, Failed);
     // The lines before the one that does not fit have been appended.
     for length in growths {
         want.fails(Needs::Memory, start, (false, &string[..length]));

@@ -10,7 +10,7 @@ pub static KINDS: &[Kind] = &[
     allocating("copies", |random, asked| ask_copies(&random.text(), asked)),
     allocating("conversions that return the source", |random, asked| ask_turned(&random.text(), asked)),
     allocating("strings extended by characters", |random, asked| ask_extended(ONE, random.room(), &random.text(), asked)),
-    allocating("edits by which a string grows", |random, asked| ask_growths(random.below(2) == 0, &random.text(), asked)),
+    allocating("edits by which a string grows", |random, asked| ask_growths(random.below(3) as u8, &random.text(), asked)),
     allocating("texts formatted into a string", |random, asked| {
         ask_formatted(&random.text(), &random.short_text(), &random.short_text(), asked)
     }),
@@ -160,32 +160,42 @@ static GROWTHS: [(&str, &str, usize); 13] = [
     ("", "", 100),
 ];
 
-/// Asks for each edit of a text of at most 100 characters, and for a character that is then appended.
-pub fn ask_growths(is_small: bool, text: &[u8], asked: &mut Asked) {
-    let text = &text[..text.len().min(100)];
-    calls::ask_growths(asked, is_small, text);
+/// The capacity of a string that does not allocate.
+pub const CAPACITY: usize = 100;
+
+/// Asks for each edit of a text of at most 100 characters, and for a character that is then appended. Of a string for form 0, an
+/// inline string for form 1, and otherwise of one that has `CAPACITY`.
+pub fn ask_growths(form: u8, text: &[u8], asked: &mut Asked) {
+    let text = &text[..text.len().min(CAPACITY)];
+    calls::ask_growths(asked, form, text);
+    let is_small = form == 1;
     for (before, after, room) in GROWTHS {
         let edited = [before.as_bytes(), text, after.as_bytes()].concat();
-        let want = &mut asked.want;
+        let (needed, want) = (edited.len() + room, &mut asked.want);
+        if form > 1 {
+            let is_edited = needed <= CAPACITY;
+            let edited = if is_edited { &edited } else { text };
+            put_growth(is_edited, edited, edited.len() < CAPACITY, want);
+            continue;
+        }
         let start = want.bytes.len();
-        put_growth(&edited, true, want);
+        put_growth(true, &edited, true, want);
         want.fails(Needs::memory_if(text.len() > if is_small { INLINE } else { 0 }), start, Failed);
-        let (needed, is_full) = (edited.len() + room, edited.len() >= INLINE);
         // The capacity of a string that has grown is not known.
         let (growth, last) = match is_small {
             false => (Needs::Memory, Needs::Perhaps),
-            true if needed <= INLINE => (Needs::Nothing, Needs::memory_if(is_full)),
+            true if needed <= INLINE => (Needs::Nothing, Needs::memory_if(edited.len() >= INLINE)),
             true if text.len() <= INLINE => (Needs::Memory, Needs::Perhaps),
             true => (Needs::Perhaps, Needs::Perhaps),
         };
-        want.fails(growth, start, (false, text, true, [text, b"z"].concat()));
-        want.fails_by(last, start, |want| put_growth(&edited, false, want));
+        want.fails_by(growth, start, |want| put_growth(false, text, true, want));
+        want.fails_by(last, start, |want| put_growth(true, &edited, false, want));
     }
 }
 
-/// A string that was edited, and whether a character is appended.
-fn put_growth(edited: &[u8], is_appended: bool, want: &mut Answer) {
-    want.put((true, edited, is_appended, [edited, if is_appended { &b"z"[..] } else { b"" }].concat()));
+/// Whether a string was edited, its text then, and whether a character is appended.
+fn put_growth(is_edited: bool, text: &[u8], is_appended: bool, want: &mut Answer) {
+    want.put((is_edited, text, is_appended, [text, if is_appended { &b"z"[..] } else { b"" }].concat()));
 }
 
 /// The pieces before the one that there is no memory for have been written.

@@ -11,34 +11,40 @@ use crate::random::Random;
 
 pub static KINDS: &[Kind] = &[
     allocating("modes of the engine", |random, asked| {
-        let (mode, source, script) = (random.below(7), random.bytes(), random.script(2));
-        let (reads, writes) = (slow(random), slow(random));
-        calls::ask_engine(asked, mode as u8, &script, &source, &reads, &writes);
-        asked.want.put(expected(mode, &source, &script));
+        let (source, devices) = (random.bytes(), (slow(random), slow(random)));
+        ask_mode(&source, devices, random, asked);
     }),
     long("modes of the bounded engine", 8, |random, asked| {
-        let (mode, source) = (random.below(BOUNDED), random.bytes());
-        let (reads, writes) = (slow(random), slow(random));
-        calls::ask_bounded_engine(asked, mode as u8, &source, &reads, &writes);
-        asked.want.put(expected_bounded(mode, &source));
+        let (source, devices) = (random.bytes(), (slow(random), slow(random)));
+        ask_bounded_mode(&source, devices, random, asked);
     })
     .allocating(),
     long("engines that fail", 8, failing).allocating(),
     long("the engine over long inputs", 16_384, |random, asked| {
-        let (mode, source, script) = (random.below(7), long_source(random), random.script(2));
-        let (reads, writes) = long_devices(random);
-        calls::ask_engine(asked, mode as u8, &script, &source, &reads, &writes);
-        asked.want.put(expected(mode, &source, &script));
+        let (source, devices) = (long_source(random), long_devices(random));
+        ask_mode(&source, devices, random, asked);
     })
     .allocating(),
     long("the bounded engine over long inputs", 65_536, |random, asked| {
-        let (mode, source) = (random.below(BOUNDED), long_source(random));
-        let (reads, writes) = long_devices(random);
-        calls::ask_bounded_engine(asked, mode as u8, &source, &reads, &writes);
-        asked.want.put(expected_bounded(mode, &source));
+        let (source, devices) = (long_source(random), long_devices(random));
+        ask_bounded_mode(&source, devices, random, asked);
     })
     .allocating(),
 ];
+
+/// Asks for any mode of the engine.
+fn ask_mode(source: &[u8], (reads, writes): (Device, Device), random: &mut Random, asked: &mut Asked) {
+    let (mode, script) = (random.below(7), random.script(2));
+    calls::ask_engine(asked, mode as u8, &script, source, &reads, &writes);
+    asked.want.put(expected(mode, source, &script));
+}
+
+/// Asks for any mode of the bounded engine.
+fn ask_bounded_mode(source: &[u8], (reads, writes): (Device, Device), random: &mut Random, asked: &mut Asked) {
+    let mode = random.below(BOUNDED);
+    calls::ask_bounded_engine(asked, mode as u8, source, &reads, &writes);
+    asked.want.put(expected_bounded(mode, source));
+}
 
 fn caret(bytes: &[u8]) -> Vec<u8> {
     let mut out = Vec::new();

@@ -44,9 +44,9 @@ pub fn printed<T: Display + Debug + ?Sized>(form: usize, value: &T) -> String {
 pub fn ask_printed(form: usize, text: &str, asked: &mut Asked) {
     calls::ask_printed(asked, form as u8, text.as_bytes());
     let printed = printed(form, text);
-    let is_printed = !printed.is_empty();
-    // Two views, a string and an inline one.
-    for makes in [false, false, !text.is_empty(), text.len() > INLINE] {
+    let (is_printed, is_some) = (!printed.is_empty(), !text.is_empty());
+    // Two views, a string, an inline one, a box, a shared text and a borrowed one.
+    for makes in [false, false, is_some, text.len() > INLINE, is_some, true, false] {
         asked.want.allocated(Needs::memory_if(makes || is_printed), &printed);
     }
 }

@@ -162,8 +162,9 @@ pub fn ask_comparisons(first: &[u8], second: &[u8], asked: &mut Asked) {
 pub fn ask_owned_comparisons(first: &[u8], second: &[u8], order: Ordering, asked: &mut Asked) {
     calls::ask_owned_comparisons(asked, first, second);
     let longest = first.len().max(second.len());
-    for needs in [longest > 0, longest > INLINE].map(Needs::memory_if) {
-        asked.want.allocated(needs, (order == Ordering::Equal, order, true));
+    // A shared text is in an allocation also if it is empty. Of the borrowed and the owned text the second is owned.
+    for makes in [longest > 0, longest > INLINE, longest > 0, true, !second.is_empty()] {
+        asked.want.allocated(Needs::memory_if(makes), (order == Ordering::Equal, order, true));
     }
 }
 

@@ -274,7 +274,8 @@ pub fn printed(random: &mut Random, asked: &mut Asked) {
     let (form, text) = (random.below(FORMS), random.text());
     calls::ask_printed(asked, form as u8, &text);
     let (view, want) = (view(&text), &mut asked.want);
-    want.put((print(form, view), print(form, view), print(form, &view.to_ascii_string()), print(form, view)));
+    want.put((print(form, view), print(form, view), print(form, &view.to_ascii_string())));
+    want.times(4, print(form, view));
 }
 
 pub fn printed_characters(random: &mut Random, asked: &mut Asked) {

@@ -1,5 +1,6 @@
 //! Lists of edits, against a table that `soak/vectors/edit_lists.rs` made with the upstream crate.
 
+use super::picks::Picks;
 use super::{Row, Rows};
 use crate::calls::{self, Steps};
 use crate::kinds::edits::expect_failures;
@@ -9,40 +10,18 @@ pub static ROWS: &[Row] = &[("edits_as_the_upstream_crate", as_upstream)];
 /// For each list the characters that were taken out, `.` if there was none, a colon, and the text at the end.
 static EDITED: &str = include_str!("edit_lists.txt");
 
-const LETTERS: &[u8] = b"abcdefghijklmnopqrstuvwxyz";
-
-/// Numbers that look random, the same at each run.
-struct Picks {
-    state: u64,
-}
-
-impl Picks {
-    /// The next number under `n`, or 0 if `n` is 0.
-    fn below(&mut self, n: usize) -> usize {
-        self.state = self.state.wrapping_mul(6364136223846793005).wrapping_add(1442695040888963407);
-        ((self.state >> 33) as usize).checked_rem(n).unwrap_or(0)
-    }
-
-    /// Up to five letters that follow each other in the alphabet.
-    fn piece(&mut self) -> &'static [u8] {
-        let start = self.below(20);
-        let size = self.below(6);
-        &LETTERS[start..start + size]
-    }
-}
-
 /// As many edits as the list has. Each position is in the text.
 fn edits(number: usize) -> Steps {
     let (mut picks, mut all, mut length) = (Picks { state: number as u64 }, Steps::default(), 0_usize);
     for _ in 0..number {
         match picks.below(10) {
             0..=3 => {
-                let piece = picks.piece();
+                let piece = picks.piece().as_bytes();
                 all.add_text(1, 0, piece);
                 length += piece.len();
             }
             4 => {
-                let (at, piece) = (picks.below(length + 1), picks.piece());
+                let (at, piece) = (picks.below(length + 1), picks.piece().as_bytes());
                 all.add_text(3, at, piece);
                 length += piece.len();
             }

@@ -6,7 +6,7 @@ use crate::asked::{Failed, Needs};
 use crate::calls::{self, Steps};
 use crate::heap::{Fails, ALL, EVERY_SECOND, ONE, TWO};
 use crate::kinds::conversions::{ask_all, ask_character_written, ask_collected, ask_split_off, ask_written};
-use crate::kinds::copies::{ask_both_runs, ask_copies, ask_extended, ask_formatted, ask_growths, ask_turned};
+use crate::kinds::copies::{ask_both_runs, ask_copies, ask_extended, ask_formatted, ask_growths, ask_turned, CAPACITY};
 use crate::kinds::edits::{ask_capacities, expect};
 use crate::kinds::json_values::ask_json;
 use crate::kinds::rewrites::{ask_joined, ask_repeated, ask_unescaped};
@@ -35,10 +35,11 @@ pub static ROWS: &[Row] = &[
             }
         }
     }),
-    // Each edit of texts that have room for it inline, that just fit there, and that are in an allocation.
+    // Each edit of texts that have room for it inline, that just fit there, that are in an allocation, and that have little room
+    // or none in a fixed capacity.
     ("edits_without_memory_leave_the_text", |rows| {
-        rows.each((0..=60).flat_map(|length| [(length, false), (length, true)]), |(length, is_small), asked| {
-            ask_growths(is_small, &LONG.repeat(2).as_bytes()[..length], asked)
+        rows.each((0..=CAPACITY).flat_map(|length| [0, 1, 2].map(|form| (length, form))), |(length, form), asked| {
+            ask_growths(form, &LONG.repeat(3).as_bytes()[..length], asked)
         })
     }),
     ("commands_go_on_after_a_failure", commands_go_on),

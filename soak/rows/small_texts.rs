@@ -21,6 +21,7 @@ pub static ROWS: &[Row] = &[
             }
         }
     }),
+    ("a_clone_goes_on_as_the_iterator_does", clones),
     ("pieces_of_a_remainder", pieces_of_a_remainder),
     ("lines_of_a_remainder", lines_of_a_remainder),
     ("pieces_of_every_small_text_in_each_form", |rows| {
@@ -93,6 +94,31 @@ fn after<'a>(mut items: VecDeque<Item<'a>>, script: &[u8]) -> VecDeque<Item<'a>>
         take(&mut items, *end);
     }
     items
+}
+
+/// After each number of steps the clone and the iterator yield the same.
+fn clones(rows: &mut Rows) {
+    let scripts = scripts();
+    for text in ["", "\n", "a\r\nb\n\nc\r", " foo  bar baz ", "\r\r\n,a,"].map(str::as_bytes) {
+        for (before, script) in stops(&scripts) {
+            let (at, script) = (before.len(), &[before, script].concat());
+            rows.each([b' ', b'a'], |code, asked| {
+                calls::ask_clones(asked, code, at, text, script);
+                let want = &mut asked.want;
+                (0..4).for_each(|_| want.all(taken(text.iter().copied().collect(), script, at)));
+                (0..2).for_each(|_| want.all(taken(lines_of(text), script, at).map(|it| it.map(|line| line.text))));
+                let ended = |line: Item<'_>| (line.ending(), line.start, line.text.to_vec());
+                (0..2).for_each(|_| want.all(taken(lines_of(text), script, at).map(|it| it.map(ended))));
+                (0..2).for_each(|_| want.all(taken(pieces(text, code), script, at).map(|it| it.map(|piece| piece.text))));
+                (0..2).for_each(|_| want.all(taken(pieces(text, code), script, at).map(|it| it.map(|it| (it.start, it.text)))));
+            });
+        }
+    }
+}
+
+/// What a script yields from a position on.
+fn taken<'a, T: Copy + 'a>(mut items: VecDeque<T>, script: &'a [u8], at: usize) -> impl Iterator<Item = Option<T>> + 'a {
+    script.iter().map(move |end| take(&mut items, *end)).skip(at)
 }
 
 /// The pieces of what remains after each number of steps are the other pieces of an unbroken walk.

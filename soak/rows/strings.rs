@@ -5,11 +5,12 @@ use super::{Row, Rows};
 use crate::asked::{items_of, Item};
 use crate::calls::{self, Step};
 use crate::kinds::conversions::{ask_all, ask_character_written, ask_collected, ask_round_trips, ask_written};
+use crate::kinds::copies::{ask_copies, ask_turned};
 use crate::kinds::edits::expect_failures;
 use crate::kinds::json_values::ask_json;
 use crate::kinds::prints::{ask_printed, FORMS};
 use crate::kinds::texts::{ask_cases, ask_hashes, ask_owned_comparisons};
-use crate::kinds::walks::{ask_lines, ask_split};
+use crate::kinds::walks::{ask_lines, ask_split, ask_walks};
 
 pub static ROWS: &[Row] = &[
     ("every_text_type_has_one_hash", |rows| rows.each(HASHES, |(text, hash), asked| ask_hashes(text.as_bytes(), hash, asked))),
@@ -21,7 +22,11 @@ pub static ROWS: &[Row] = &[
     }),
     ("a_string_in_an_allocation_stays_there", in_an_allocation),
     ("strings_are_copied_and_converted", |rows| {
-        rows.each(["", "A", "( ;", "abc", "abcdefghijklmnopqrstuvwxyz"], |text, asked| ask_round_trips(text.as_bytes(), asked))
+        for text in ["", "A", "( ;", "abc", "abcdefghijklmnopqrstuvwxyz"] {
+            rows.ask(|asked| ask_round_trips(text.as_bytes(), asked));
+            rows.ask(|asked| ask_copies(text.as_bytes(), asked));
+            rows.ask(|asked| ask_turned(text.as_bytes(), asked));
+        }
     }),
     ("strings_in_rising_order", |rows| {
         for (i, first) in RISING.iter().enumerate() {
@@ -75,11 +80,11 @@ static RISING: [&str; 7] = ["", "Z", "a", "ab", "abc", "abcdefghijklmnopqrstuvwx
 fn printed(rows: &mut Rows) {
     rows.ask(|asked| {
         calls::ask_printed(asked, 10, b"abc");
-        (0..4).for_each(|_| asked.want.copy("  abc"));
+        (0..7).for_each(|_| asked.want.copy("  abc"));
     });
     rows.ask(|asked| {
         calls::ask_printed(asked, 1, b"\0\t'\\\x7f");
-        (0..4).for_each(|_| asked.want.copy("\"\\0\\t'\\\\\\u{7f}\""));
+        (0..7).for_each(|_| asked.want.copy("\"\\0\\t'\\\\\\u{7f}\""));
     });
     for (form, text) in (0..FORMS).flat_map(|form| ["\0\t'\\\x7f", "a\"b", "abc"].map(|text| (form, text))) {
         rows.ask(|asked| ask_printed(form, text, asked));
@@ -143,5 +148,8 @@ fn long_texts(rows: &mut Rows) {
         rows.ask(|asked| ask_json(&text, asked));
         rows.ask(|asked| ask_split(b'a', &text, &vec![0; length.min(1_000)], asked));
         rows.ask(|asked| ask_lines(&text, &vec![0; length], asked));
+        rows.ask(|asked| ask_walks(b'a', &text, &vec![0; length], asked));
+        rows.ask(|asked| ask_copies(&text, asked));
+        rows.ask(|asked| ask_turned(&text, asked));
     }
 }

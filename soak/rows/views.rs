@@ -1,12 +1,14 @@
 //! Views: parts of sources by ranges, characters at positions, trims, comparisons, and views that change their source.
 
 use super::{Row, Rows};
+use crate::asked::Asked;
 use crate::calls;
-use crate::kinds::slices::{ask_equal_sources, ask_part_mut, ask_position, ask_range, ask_unchecked, ask_views};
-use crate::kinds::texts::{ask_comparisons, ask_trims};
+use crate::kinds::slices::{ask_equal_sources, ask_part_mut, ask_position, ask_range, ask_unchecked, ask_views, bounds};
+use crate::kinds::texts::{ask_cases, ask_comparisons, ask_trims};
 
 pub static ROWS: &[Row] = &[
     ("parts_of_sources", parts),
+    ("every_form_at_its_edges", at_edges),
     ("views_of_sources", |rows| {
         let sources: [&[u8]; 7] = ["abčd".as_bytes(), b"A", b"( ;", b"", &[127, 128, 255], &[0xc4, 0x8d], "zoä华".as_bytes()];
         for source in sources {
@@ -34,12 +36,9 @@ pub static ROWS: &[Row] = &[
             });
             rows.ask(|asked| ask_trims(text, asked));
         }
-    }),
-    ("texts_that_are_equal_ignoring_case", |rows| {
-        for (one, other, are_equal) in PAIRS {
-            assert_eq!(one.eq_ignore_ascii_case(other), are_equal);
-            rows.ask(|asked| ask_comparisons(one.as_bytes(), other.as_bytes(), asked));
-            rows.ask(|asked| ask_comparisons(other.as_bytes(), one.as_bytes(), asked));
+        for text in SPACED {
+            rows.ask(|asked| ask_trims(text, asked));
+            rows.ask(|asked| ask_cases(text.as_bytes(), asked));
         }
     }),
     ("texts_in_rising_order", rising),
@@ -102,18 +101,49 @@ static PARTS_OF_A_VIEW: [(Range, Result<&str, usize>); 12] = [
 
 fn parts(rows: &mut Rows) {
     let of_a_view = PARTS_OF_A_VIEW.iter().map(|(range, part)| ("ABCD", *range, *part));
-    for (source, (form, start, end), part) in PARTS.into_iter().chain(of_a_view) {
-        rows.ask(|asked| {
-            calls::ask_slices(asked, form as u8, start, end, source.as_bytes());
-            // As bytes and as a `str`; of a view also as a part of it, and of one that is known to have the part.
-            let times = if source.is_ascii() { 3 + usize::from(part.is_ok()) } else { 2 };
-            for _ in 0..times {
-                match part {
-                    Ok(part) => asked.want.put(part),
-                    Err(position) => asked.want.put(position),
-                }
-            }
-        });
+    for (source, range, part) in PARTS.into_iter().chain(of_a_view) {
+        rows.ask(|asked| ask_part(source, range, part, asked));
+    }
+}
+
+fn ask_part(source: &str, (form, start, end): Range, part: Result<&str, usize>, asked: &mut Asked) {
+    calls::ask_slices(asked, form as u8, start, end, source.as_bytes());
+    // As bytes and as a `str`; of a view also as a part of it, and of one that is known to have the part.
+    asked.want.times(if source.is_ascii() { 3 + usize::from(part.is_ok()) } else { 2 }, part);
+}
+
+/// For sources of length 0, 1 and 33 what the upstream crate says of each range: `w` for the whole source, `e` for no
+/// character, `f` for the first one, and `r` for an error, which has the length.
+static OUTCOMES: [(usize, &str); 3] = [
+    (0, "wwwrwrwrrrrrwwrwrwrrrrrrrrrrrrrrrrrrrrrrrrrrr"),
+    (1, "wwewewwrrrrrewrreerrrrrrrrrrrrrrrrrrrrrrrrrrr"),
+    (33, "wwefefwrrrrrewrrrerrrrrrrrrrrrrrrrrrrrrrrrrrr"),
+];
+
+/// The six forms with 0, the length, one more and the largest number as each bound.
+fn ranges(length: usize) -> impl Iterator<Item = Range> {
+    let places = [0, length, length + 1, usize::MAX];
+    let of_two = move |start| places.into_iter().flat_map(move |end| [(RANGE, start, end), (INCLUSIVE, start, end)]);
+    let of_one = |place| [(FROM, place, 0), (TO, 0, place), (TO_INCLUSIVE, 0, place)];
+    [(FULL, 0, 0)].into_iter().chain(places.into_iter().flat_map(move |place| of_one(place).into_iter().chain(of_two(place))))
+}
+
+fn at_edges(rows: &mut Rows) {
+    for (length, letters) in OUTCOMES {
+        let source = &"@ABCDEFGHIJKLMNOPQRSTUVWXYZ[\\]^_`"[..length];
+        assert_eq!(ranges(length).count(), letters.len());
+        for (range, letter) in ranges(length).zip(letters.bytes()) {
+            let part = match letter {
+                b'w' => Ok(source),
+                b'e' => Ok(""),
+                b'f' => Ok("@"),
+                _ => Err(length),
+            };
+            let (form, start, end) = range;
+            rows.ask(|asked| ask_part(source, range, part, asked));
+            rows.ask(|asked| ask_part_mut(form, start, end, b'z', source.into(), asked));
+            rows.ask(|asked| ask_range(form, start, end, length, bounds(form, start, end, length), asked));
+        }
     }
 }
 
@@ -147,15 +177,13 @@ static TRIMS: [(&str, [&str; 3]); 6] = [
     ("\x1fa\x00", ["\x1fa\x00", "\x1fa\x00", "\x1fa\x00"]),
 ];
 
-/// Two texts, and whether they are equal, ignoring case.
-static PAIRS: [(&str, &str, bool); 7] = [
-    ("[", "{", false),
-    ("Z", "\x7f", false),
-    ("z", "Z", true),
-    ("a@A", "A@a", true),
-    ("@", "`", false),
-    ("a", "ab", false),
-    ("", "", true),
+/// Texts of whitespace, of the codes next to it, and of letters and the codes next to them.
+static SPACED: [&str; 19] = [
+    "\x0c\t\r\x7f\t\t@\x0b[", "\x1f", "\x0c[ Z@\rZa[\x7fa@`\x0b{ \x7f\n{Z\x1f\x0c@\t\x0b\nZ\t\x7f\x7f\n\x1fa", "\x0b\x0b@\t",
+    "\x0c{\t\x7fa[", "\x0c\n Z{\x0c {\x0c\x7f\n\r\t\ta\x7f\ra\x7f\x7f@ \n`\x7f\x0b[ Z\x0b\x1f{`", "{", "\n\t\x7f\x7fa@", "\r\t",
+    "\x0b\x0b\nZ", "\r\n \t@\x7f{@  \t \x0b\x1f\ra\x1f\n[ \x0c@a\x0b\r\x0c\r\r \x0b[[\x1f", "{\t", "@[\x0b`",
+    "\x0bZ\x7fa\x7fa\t\r\rZ\x0cZ[a\x0bZ \x7f`\x0b@ZZ[ \t\x0b\x1f\x1fa` \x0c", " ", "\x0cZ{\raZ\x0c\x0c\n", "\n@",
+    "\r\x7f\x7f\x7f\x0c\r\r\x7f\x0c", "\x1f\x1f [Za\r\x0b\x0b\x1f\x0cZa \t\x0ba\t\x7f{\n\x0c\x7f\x7f\x7f\rZ`Z\x1f@[\t",
 ];
 
 fn rising(rows: &mut Rows) {
@@ -172,7 +200,10 @@ fn rising(rows: &mut Rows) {
 }
 
 /// Texts that differ in case, in one code, in length, and in codes next to the letters.
-static NAMES: [&str; 10] = ["", "host", "HOST", "Host", "hose", "HOSTS", "a@", "A`", "a[", "A{"];
+static NAMES: [&str; 38] = [
+    "", "host", "HOST", "Host", "hose", "HOSTS", "a@", "A`", "a[", "A{", "[", "{", "Z", "\x7f", "z", "a@A", "A@a", "@", "`",
+    "a", "ab", "@Z", "@@", "@a", "A", "AZZ", "Az@", "aZ`", "A`@", "Z@`", "z@`", "Zz", "zZ", "a`Z", "A`z", "z@a", "Z`A", "z`",
+];
 
 /// Two letters, a character that is not ASCII, and two letters.
 const SOURCE: [u8; 5] = [0x61, 0xc4, 0x8d, 0x42, 0x62];

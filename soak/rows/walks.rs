@@ -61,7 +61,7 @@ fn put_walk(walk: Walk<'_>, answers: &str, want: &mut Answer) {
 }
 
 /// A text, where it is split, the ends that are asked, and the answers.
-static PIECES: [(&str, u8, &str, &str); 13] = [
+static PIECES: [(&str, u8, &str, &str); 20] = [
     (" foo  bar baz ", b' ', "FBFBBFB", "||foo|baz|bar||~|"),
     ("", 21, "FF", "|~|"),
     ("", 21, "BB", "|~|"),
@@ -75,10 +75,18 @@ static PIECES: [(&str, u8, &str, &str); 13] = [
     (" a  b  c ", b' ', "FFFFFFFF", "|a||b||c||~|"),
     (" a  b  c ", b' ', "BBBBBBBB", "|c||b||a||~|"),
     ("ab", b',', "", ""),
+    // From here on made with the upstream crate.
+    (",,a,baba", b',', "BFBFF", "baba||a||~|"),
+    (",bbaabbb", b',', "BBF", "bbaabbb||~|"),
+    ("bbb,,a,,", b',', "FBF", "bbb|||"),
+    (",a,,,a,abbab,,,,,a,,a,ab,,b,,a,,,", b',', "FFB", "|a||"),
+    (",baa,,bbb,ab", b',', "BFFBB", "ab||baa|bbb||"),
+    ("bb,,,a,b", b',', "BBBFFFBF", "b|a||bb||~|~|~|"),
+    (",,b,,,,,a,,,", b',', "FBFFB", "|||b||"),
 ];
 
 /// A text, the ends that are asked, and the answers.
-static LINES: [(&str, &str, &str); 14] = [
+static LINES: [(&str, &str, &str); 23] = [
     ("foo\r\nbar\n\nbaz\n", "FBBFF", "foo|baz||bar|~|"),
     ("foo\r\nbar\n\nbaz", "FFFFF", "foo|bar||baz|~|"),
     ("foo\r\nbar\n\nbaz\n", "BBBBB", "baz||bar|foo|~|"),
@@ -93,6 +101,16 @@ static LINES: [(&str, &str, &str); 14] = [
     ("", "BB", "~|~|"),
     ("\n\n", "BBFF", "||~|~|"),
     ("a\r\n\r\nb\r", "BBB", "b\r||a|"),
+    // From here on made with the upstream crate.
+    ("\n\n\r\n\raab", "BBBFB", "\raab||||~|"),
+    ("b\n\n\naa\rb", "FFFBB", "b|||aa\rb|~|"),
+    ("\ra\rb\r\r\nb", "FBF", "\ra\rb\r|b|~|"),
+    ("\n\nba\na\r\r\n\n\n\r", "BFFBFBFB", "\r||||ba||a\r|~|"),
+    ("\rb\raa", "BFFBBFBB", "\rb\raa|~|~|~|~|~|~|~|"),
+    ("\r\r\n\nb\r\r\r", "BBFFF", "b\r\r\r||\r|~|~|"),
+    ("b\rbab\ra\nb\ra\n", "BBFBB", "b\ra|b\rbab\ra|~|~|~|"),
+    ("\n\n\r\ra\na\n\r\nba", "BFF", "ba|||"),
+    ("a\n\naa\r\n\n\r\raa", "FBF", "a|\r\raa||"),
 ];
 
 /// Each script of `next`, `next_back`, `nth(1)` and a clone in reverse, of a length.

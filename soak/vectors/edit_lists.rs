@@ -9,27 +9,10 @@
 //! The number of a list decides its edits; `soak/rows/edit_lists.rs` makes the same ones.
 use ascii::{AsAsciiStr, AsciiString};
 
-const LETTERS: &str = "abcdefghijklmnopqrstuvwxyz";
+#[path = "../rows/picks.rs"]
+mod picks;
 
-/// Numbers that look random, the same at each run.
-struct Picks {
-    state: u64,
-}
-
-impl Picks {
-    /// The next number under `n`, or 0 where `n` is 0.
-    fn below(&mut self, n: usize) -> usize {
-        self.state = self.state.wrapping_mul(6364136223846793005).wrapping_add(1442695040888963407);
-        ((self.state >> 33) as usize).checked_rem(n).unwrap_or(0)
-    }
-
-    /// Up to five letters that follow each other in the alphabet.
-    fn piece(&mut self) -> &'static str {
-        let start = self.below(20);
-        let size = self.below(6);
-        &LETTERS[start..start + size]
-    }
-}
+use picks::Picks;
 
 /// What list `number` takes out, and the text at its end.
 fn ran(number: usize) -> (String, AsciiString) {

@@ -11,12 +11,12 @@ use std::collections::HashSet;
 /// For each number: the character of that number as a `u8`, an `i8`, a `u16`, a `u32` and a `char`.
 pub fn ask_characters_of(numbers: &[i64], answer: &mut Answer) {
     for number in numbers {
-        answer.put(character_of(u8::try_from(*number).ok()));
-        answer.put(character_of(i8::try_from(*number).ok()));
-        answer.put(character_of(u16::try_from(*number).ok()));
+        let byte = character_of(u8::try_from(*number).ok());
+        let signed = character_of(i8::try_from(*number).ok());
+        answer.put((byte, signed, character_of(u16::try_from(*number).ok())));
         let number = u32::try_from(*number).ok();
-        answer.put(character_of(number));
-        answer.put(character_of(char::from_u32(number.unwrap_or(u32::MAX))));
+        let ch = char::from_u32(number.unwrap_or(u32::MAX));
+        answer.put((character_of(number), character_of(ch)));
     }
 }
 
@@ -30,9 +30,8 @@ pub fn ask_characters(codes: AsciiStr, radix: u32, answer: &mut Answer)
     requires radix { radix ≤ 36 }
 {
     for ch in codes.chars() {
-        answer.put(tests(ch));
-        answer.put(images(ch));
-        answer.put((ch.is_digit(radix), ch.to_digit(radix).unwrap_or(radix)));
+        let digit = (ch.is_digit(radix), ch.to_digit(radix).unwrap_or(radix));
+        answer.put((tests(ch), images(ch), digit));
     }
 }
 
@@ -104,13 +103,13 @@ impl Put for ToAsciiCharError {
 
 fn put_conversions(code: u8, ch: AsciiChar, answer: &mut Answer) {
     if code < 128 {
-        answer.put(AsciiChar::new(code as char));
-        answer.put(AsciiChar::from_ascii_unchecked(code));
-        answer.put(code.to_ascii_char_unchecked());
-        answer.put((code as i8).to_ascii_char_unchecked());
-        answer.put(u16::from(code).to_ascii_char_unchecked());
-        answer.put(u32::from(code).to_ascii_char_unchecked());
-        answer.put((code as char).to_ascii_char_unchecked());
+        let of_char = AsciiChar::new(code as char);
+        let of_byte = AsciiChar::from_ascii_unchecked(code);
+        answer.put((of_char, of_byte, code.to_ascii_char_unchecked()));
+        let of_signed = (code as i8).to_ascii_char_unchecked();
+        answer.put((of_signed, u16::from(code).to_ascii_char_unchecked()));
+        let of_word = u32::from(code).to_ascii_char_unchecked();
+        answer.put((of_word, (code as char).to_ascii_char_unchecked()));
     }
     answer.put((ch.to_ascii_char().ok(), ch.to_ascii_char_unchecked()));
     let mut upper: AsciiChar = ch;
@@ -118,8 +117,8 @@ fn put_conversions(code: u8, ch: AsciiChar, answer: &mut Answer) {
     upper.make_ascii_uppercase();
     lower.make_ascii_lowercase();
     answer.put((upper, lower));
-    answer.put((u8::from(ch), u32::from(ch.as_char())));
-    answer.put(u32::from(char::from(ch)));
+    let number = u32::from(ch.as_char());
+    answer.put((u8::from(ch), number, u32::from(char::from(ch))));
 }
 
 /// For each ASCII code, whether a set of std lacks the characters before it; and how many are in the set then.

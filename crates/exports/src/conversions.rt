@@ -2,8 +2,8 @@
 
 use crate::answer::{Answer, Made, NOTHING, Put};
 use ascii::{
-    AsciiChar, AsciiStr, AsciiString, BoxedAsciiStr, Buffer, CopyError, CowAsciiStr,
-    FromAsciiError, RcAsciiStr, Text, bytes, string, text, vec,
+    AsciiChar, AsciiStr, AsciiString, BoxedAsciiStr, Buffer, CopyError, FromAsciiError, Text,
+    bytes, string, text, vec,
 };
 use ascii_run::SmallAsciiString;
 use std::alloc::{AllocError, Global};
@@ -45,19 +45,15 @@ impl<O: Put> Put for CopyError<O> {
     }
 }
 
-/// A text after it was turned into lists of characters and back, into lists of bytes and a `String` and back, after it was
-/// each of the boxes, and after it was an inline string and a copy of one; and a string of its first character.
+/// A text after it was turned into lists of bytes and a `String` and back, by a list that is not checked, and by a `str` in a
+/// box; a copy of a string and the `String` of it; and a string of the first character.
 pub fn ask_round_trips(alloc: Global, source: AsciiStr, answer: &mut Answer) {
-    answer.put_result(through_chars(alloc, source));
     answer.put_result(through_lists(alloc, source));
     match Vec::from_slice(alloc, source.as_bytes()) {
         Ok(list) => answer.put(AsciiString::from_ascii_unchecked(list)),
         Err(error) => answer.put(error),
     }
-    answer.put_result(through_boxes(alloc, source));
-    answer.put_result(through_copied_boxes(alloc, source));
-    answer.put_result(through_cow(alloc, source));
-    answer.put_result(through_inline(alloc, source));
+    answer.put_result(through_boxed_str(alloc, source));
     match source.to_ascii_string(alloc) {
         Ok(string) => {
             answer.put_result(string.clone());
@@ -70,13 +66,6 @@ pub fn ask_round_trips(alloc: Global, source: AsciiStr, answer: &mut Answer) {
     }
 }
 
-fn through_chars(alloc: Global, view: AsciiStr) -> Made<AsciiString> {
-    let chars = view.to_chars(alloc)?;
-    let string = AsciiString::from_chars(alloc, &chars)?;
-    let chars = string.into_chars(alloc).ok().ok_or(AllocError)?;
-    AsciiString::collect_chars(alloc, chars.into_iter())
-}
-
 fn through_lists(alloc: Global, view: AsciiStr) -> Made<AsciiString> {
     let list: Vec<u8> = view.to_ascii_string(alloc)?.into();
     let string = vec::from_ascii(list).ok().ok_or(AllocError)?;
@@ -86,37 +75,11 @@ fn through_lists(alloc: Global, view: AsciiStr) -> Made<AsciiString> {
     vec::into_ascii_string(list).ok().ok_or(AllocError)
 }
 
-fn through_copied_boxes(alloc: Global, view: AsciiStr) -> Made<AsciiString> {
-    let shared = RcAsciiStr::from_ascii_str(alloc, view)?;
-    let shared = shared.clone()?;
-    let boxed = BoxedAsciiStr::from_ascii_str(alloc, shared.as_ascii_str())?;
-    let text = boxed.into_boxed_str();
+fn through_boxed_str(alloc: Global, view: AsciiStr) -> Made<AsciiString> {
+    let text = BoxedAsciiStr::from_ascii_str(alloc, view)?.into_boxed_str();
     text::to_ascii_string(alloc, text.as_str())
         .ok()
         .ok_or(AllocError)
-}
-
-fn through_cow(alloc: Global, view: AsciiStr) -> Made<AsciiString> {
-    let owned: CowAsciiStr = view.to_ascii_string(alloc)?.into();
-    let borrowed: CowAsciiStr = owned.as_ascii_str().into();
-    let string = borrowed.into_owned(alloc).ok().ok_or(AllocError)?;
-    let owned: CowAsciiStr = string.into();
-    owned.into_owned(alloc).ok().ok_or(AllocError)
-}
-
-fn through_boxes(alloc: Global, view: AsciiStr) -> Made<AsciiString> {
-    let string = view.to_ascii_string(alloc)?;
-    let boxed: BoxedAsciiStr = string.into_boxed_ascii_str().ok().ok_or(AllocError)?;
-    let string = boxed.into_ascii_string().ok().ok_or(AllocError)?;
-    let shared = string.into_rc_ascii_str(alloc).ok().ok_or(AllocError)?;
-    let borrowed = CowAsciiStr::from(shared.as_ascii_str());
-    borrowed.into_owned(alloc).ok().ok_or(AllocError)
-}
-
-fn through_inline(alloc: Global, view: AsciiStr) -> Made<AsciiString> {
-    let small = SmallAsciiString::from_ascii_str(alloc, view)?;
-    let copy = small.clone()?;
-    copy.into_ascii_string().ok().ok_or(AllocError)
 }
 
 /// Whether a piece was written to a text, and the text after that; as a string and as an inline string.
@@ -142,16 +105,8 @@ pub fn ask_character_written(alloc: Global, number: u32, source: AsciiStr, answe
     }
 }
 
-/// The characters collected into one string, and then appended to it; and the pieces at a character collected into one string,
-/// and then the lines appended to it.
+/// The pieces at a character collected into one string, and then the lines appended to it.
 pub fn ask_collected(alloc: Global, on: AsciiChar, source: AsciiStr, answer: &mut Answer) {
-    match AsciiString::collect_chars(alloc, source.chars()) {
-        Ok(mut string) => {
-            answer.put(string.as_ascii_str());
-            answer.put((string.extend_chars(source.into_iter()).is_ok(), string));
-        }
-        Err(error) => answer.put(error),
-    }
     match AsciiString::collect_strs(alloc, source.split(on)) {
         Ok(mut string) => {
             answer.put(string.as_ascii_str());

@@ -8,7 +8,7 @@ use ascii::{
     Text,
 };
 use ascii_formats::AsciiStringExt;
-use ascii_run::{BothRuns, SmallAsciiString, run_both};
+use ascii_run::{ArrayAsciiString, BothRuns, SmallAsciiString, run_both};
 use std::alloc::{AllocError, Global};
 use std::fmt::{Alignment, Write as _};
 
@@ -51,11 +51,15 @@ pub fn ask_turned(alloc: Global, source: AsciiStr, answer: &mut Answer) {
     let string = source.to_ascii_string(alloc);
     answer.put_result(string.map(|it| it.into_boxed_ascii_str().map(from_box).map_err(returned)));
     let small = SmallAsciiString::from_ascii_str(alloc, source);
-    answer.put_result(small.map(|it| it.into_ascii_string().map_err(returned)));
+    answer.put_result(small.map(from_small));
 }
 
 fn from_box(boxed: BoxedAsciiStr) -> Result<AsciiString, (AllocError, BoxedAsciiStr)> {
     boxed.into_ascii_string().map_err(returned)
+}
+
+fn from_small(small: SmallAsciiString) -> Result<AsciiString, (AllocError, SmallAsciiString)> {
+    small.into_ascii_string().map_err(returned)
 }
 
 /// A source that is returned, after an allocation that failed.
@@ -79,18 +83,24 @@ pub fn ask_extended(alloc: Global, capacity: usize, source: AsciiStr, answer: &m
         }
         Err(error) => answer.put(error),
     }
-    answer.put_result(AsciiString::collect_chars(alloc, source.chars()));
+    answer.put_result(AsciiString::collect_chars(alloc, source.into_iter()));
 }
 
 /// For each edit by which a string grows: whether a copy of a text is edited, the text after that, whether a character is
-/// then appended, and the text after that.
-pub fn ask_growths(alloc: Global, is_small: bool, source: AsciiStr, answer: &mut Answer) {
+/// then appended, and the text after that. The copy is a string for form 0, an inline string for form 1, and otherwise a
+/// string of a fixed capacity of 100.
+pub fn ask_growths(alloc: Global, form: u8, source: AsciiStr, answer: &mut Answer) {
     for number in 0..13 {
-        if is_small {
-            let small = SmallAsciiString::from_ascii_str(alloc, source);
-            put_growth(small, number, answer);
-        } else {
-            put_growth(source.to_ascii_string(alloc), number, answer);
+        match form {
+            0 => put_growth(source.to_ascii_string(alloc), number, answer),
+            1 => {
+                let small = SmallAsciiString::from_ascii_str(alloc, source);
+                put_growth(small, number, answer);
+            }
+            _ => {
+                let array = ArrayAsciiString::<100>::from_ascii_str((), source);
+                put_growth(array.map_err(|_| AllocError), number, answer);
+            }
         }
     }
 }

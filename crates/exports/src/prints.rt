@@ -1,19 +1,24 @@
 //! Printed texts and characters. The number of a form is its index in `print`.
 
 use crate::answer::{Answer, Made};
-use ascii::AsciiStr;
+use ascii::{AsciiStr, BoxedAsciiStr, CowAsciiStr, RcAsciiStr};
 use ascii_keys::FoldedStr;
 use ascii_run::SmallAsciiString;
 use std::alloc::Global;
 use std::fmt;
 
-/// A text in a form: as a view, ignoring case, as a string and as an inline string.
+/// A text in a form: as a view, ignoring case, as a string, as an inline string, in a box, as a shared text, and as a borrowed
+/// one.
 pub fn ask_printed(alloc: Global, form: u8, source: AsciiStr, answer: &mut Answer) {
     answer.put_result(print(alloc, form, Ok(source)));
     answer.put_result(print(alloc, form, Ok(FoldedStr::new(source))));
     answer.put_result(print(alloc, form, source.to_ascii_string(alloc)));
     let small = SmallAsciiString::from_ascii_str(alloc, source);
     answer.put_result(print(alloc, form, small));
+    let boxed = BoxedAsciiStr::from_ascii_str(alloc, source);
+    answer.put_result(print(alloc, form, boxed));
+    answer.put_result(print(alloc, form, RcAsciiStr::from_ascii_str(alloc, source)));
+    answer.put_result(print(alloc, form, Ok(CowAsciiStr::<Global>::from(source))));
 }
 
 /// Each of some characters in a form.

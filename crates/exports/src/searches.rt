@@ -10,15 +10,16 @@ use std::alloc::Global;
 /// and whether the text contains it, ignoring case; and how often it occurs.
 pub fn ask_find(source: AsciiStr, needle: AsciiStr, answer: &mut Answer) {
     answer.put((source.find(needle), source.rfind(needle)));
-    answer.put(source.split_once_str(needle));
-    answer.put(source.rsplit_once_str(needle));
-    answer.put(source.contains(needle));
-    answer.put((source.starts_with(needle), source.ends_with(needle)));
-    answer.put((source.strip_prefix(needle), source.strip_suffix(needle)));
-    answer.put(source.strip_prefix_ignore_ascii_case(needle));
-    answer.put(source.find_ignore_ascii_case(needle));
-    answer.put(source.contains_ignore_ascii_case(needle));
-    answer.put(source.count(needle));
+    let once = source.split_once_str(needle);
+    answer.put((once, source.rsplit_once_str(needle)));
+    let (contains, starts) = (source.contains(needle), source.starts_with(needle));
+    answer.put((contains, starts, source.ends_with(needle)));
+    let without = source.strip_prefix(needle);
+    answer.put((without, source.strip_suffix(needle)));
+    let without = source.strip_prefix_ignore_ascii_case(needle);
+    let contains = source.contains_ignore_ascii_case(needle);
+    answer.put((without, source.find_ignore_ascii_case(needle)));
+    answer.put((contains, source.count(needle)));
 }
 
 /// The first and the last position of a character, and the two sides of each.

@@ -1,7 +1,7 @@
 //! The kernels, and texts that are changed, compared and hashed.
 
 use crate::answer::{Answer, Made};
-use ascii::{AsciiStr, BoxedAsciiStr, CowAsciiStr, RcAsciiStr, kernels};
+use ascii::{AsciiStr, AsciiString, BoxedAsciiStr, CowAsciiStr, RcAsciiStr, kernels};
 use ascii_keys::FoldedStr;
 use ascii_run::{ArrayAsciiString, SmallAsciiString};
 use std::alloc::Global;
@@ -55,15 +55,16 @@ pub fn ask_cases(alloc: Global, source: AsciiStr, answer: &mut Answer) {
 /// is there.
 pub fn ask_comparisons(first: AsciiStr, second: AsciiStr, answer: &mut Answer) {
     let (folded, other_folded) = (FoldedStr::new(first), FoldedStr::new(second));
-    answer.put((first == second, first.eq_str(second.as_str())));
-    answer.put(first.eq_bytes(second.as_bytes()));
+    let (order, is_bytes) = (first.cmp(&second), first.eq_bytes(second.as_bytes()));
+    answer.put((first == second, first.eq_str(second.as_str()), is_bytes));
     answer.put((first.eq_ignore_ascii_case(second), folded == other_folded));
-    answer.put((first.cmp(&second), folded.cmp(&other_folded)));
-    answer.put(first.partial_cmp(&second) == Some(first.cmp(&second)));
-    answer.put(folded < other_folded);
+    answer.put((order, folded.cmp(&other_folded)));
+    let is_some = first.partial_cmp(&second) == Some(order);
+    answer.put((is_some, folded < other_folded));
 }
 
-/// Whether two texts are equal and which is the lesser one, also as what may be missing; as strings and as inline strings.
+/// Whether two texts are equal and which is the lesser one, also as what may be missing; as strings, as inline strings, in
+/// boxes, as shared texts, and as a borrowed and an owned one.
 pub fn ask_owned_comparisons(
     alloc: Global,
     first: AsciiStr,
@@ -74,6 +75,16 @@ pub fn ask_owned_comparisons(
     answer.put_result(compare(string, second.to_ascii_string(alloc)));
     let small = SmallAsciiString::from_ascii_str(alloc, first);
     answer.put_result(compare(small, SmallAsciiString::from_ascii_str(alloc, second)));
+    let boxed = BoxedAsciiStr::from_ascii_str(alloc, first);
+    answer.put_result(compare(boxed, BoxedAsciiStr::from_ascii_str(alloc, second)));
+    let shared = RcAsciiStr::from_ascii_str(alloc, first);
+    answer.put_result(compare(shared, RcAsciiStr::from_ascii_str(alloc, second)));
+    let owned = owned_cow(second.to_ascii_string(alloc));
+    answer.put_result(compare(Ok(CowAsciiStr::from(first)), owned));
+}
+
+fn owned_cow<'a>(made: Made<AsciiString>) -> Made<CowAsciiStr<'a>> {
+    Ok(made?.into())
 }
 
 fn compare<T: Ord + Drop>(first: Made<T>, second: Made<T>) -> Made<(bool, Ordering, bool)> {

@@ -47,18 +47,16 @@ fn search<C: Searched>(source: &[u8], script: &[u8], answer: &mut Answer) {
     for byte in source {
         answer.put(C::has(*byte));
     }
-    answer.put(kernels::first_not::<C>(source));
-    answer.put(kernels::last_not::<C>(source));
-    answer.put(kernels::first_of::<C>(source));
-    answer.put(kernels::last_of::<C>(source));
-    answer.put(kernels::run_end::<C>(source, 0, false));
-    answer.put(kernels::run_start::<C>(source, source.len(), false));
+    let last = kernels::last_not::<C>(source);
+    answer.put((kernels::first_not::<C>(source), last));
+    let last = kernels::last_of::<C>(source);
+    answer.put((kernels::first_of::<C>(source), last));
+    let end = kernels::run_end::<C>(source, 0, false);
+    answer.put((end, kernels::run_start::<C>(source, source.len(), false)));
     if let Ok(view) = bytes::as_ascii_str(source) {
-        answer.put((view.first_not::<C>(), view.is_all::<C>()));
-        answer.put(view.span::<C>());
-        answer.put(view.trim_matches::<C>());
-        answer.put(view.trim_start_matches::<C>());
-        answer.put(view.trim_end_matches::<C>());
+        answer.put((view.first_not::<C>(), view.is_all::<C>(), view.span::<C>()));
+        let (both, start) = (view.trim_matches::<C>(), view.trim_start_matches::<C>());
+        answer.put((both, start, view.trim_end_matches::<C>()));
         put_items(view.words::<C>(), script, answer);
         put_items(view.runs::<C>(), script, answer);
         put_items(view.split_by::<C>(), script, answer);

@@ -1,13 +1,10 @@
-//! What the differential test cannot ask of `ascii`: vectors that were made with the Rust crate, generic code at the types
-//! of a caller, the traits of std, what errors print, and long texts for the calls that may give up.
+//! What the differential test cannot ask of `ascii`: generic code at the types of a caller, the traits of std, what errors
+//! print, and long texts for the calls that may give up.
 
-mod clones;
 mod long_texts;
 mod size_hints;
 mod strings;
 mod traits;
-mod upstream_vectors;
-mod upstream_walks;
 mod views;
 
 ghost use Rattle.std.specs.Prelude.{IsTrue};

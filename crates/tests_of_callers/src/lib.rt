@@ -1,5 +1,4 @@
-//! Tests of `tests_callers` and of the errors of the cookbook: texts whose parts are known from the rules, and the exact
-//! text of each error.
+//! `ascii` together with std and the toolchain's crates: what their users write.
 #![tactic(auto)]
 
 #[cfg(test)]

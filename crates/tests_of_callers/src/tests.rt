@@ -1,10 +1,6 @@
-//! What the errors of the cookbook print (`errors`), JSON values of strings, each public call of `tests_callers`, on texts
-//! that are written out by hand, and `ascii` together with std and the toolchain's crates (`beside`, `serialized`).
+//! `ascii` together with std and the toolchain's crates.
 
 mod beside;
-mod callers;
-mod errors;
-mod json_round_trip;
 mod serialized;
 
 ghost use Rattle.std.specs.Prelude.{IsTrue};

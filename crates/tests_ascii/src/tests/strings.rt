@@ -1,10 +1,7 @@
-//! What no row of the differential test can ask of owned text: that memory is given back, what an error prints, and a
-//! set of std at each type of text.
+//! What no clause states of owned text: that memory is given back, and what an error prints.
 
-use ascii::{AsciiChar, AsciiString, Buffer, NewBuffer, Text, vec};
+use ascii::{AsciiChar, Buffer, NewBuffer, Text, vec};
 use std::alloc::{AllocError, Global};
-use std::collections::HashSet;
-use std::hash::Hash;
 use std::process::Abort;
 use testing::{ascii, assert_row};
 
@@ -60,30 +57,4 @@ fn error_of_rejected_bytes(rt: HostRuntime) {
         panic!(rt; "accepted");
     };
     assert_row!(rt; again.into_source().as_slice(), [127, 128, 255].as_slice());
-}
-
-/// Fails the test if a set of one text lacks the same text or has another one.
-fn find_by_hash<T: Hash + Eq + Drop, R: Abort + AllocGlobal>(rt: &R, one: T, same: &T, other: &T) {
-    let mut texts = HashSet::new(rt.alloc());
-    texts.insert(one).expect(rt, "refused");
-    assert!(rt; texts.contains(same));
-    assert!(rt; !texts.contains(other));
-}
-
-#[test]
-fn a_set_finds_an_equal_text(rt: HostRuntime) {
-    find_by_hash(
-        &rt,
-        string_of(&rt, "abc"),
-        &string_of(&rt, "abc"),
-        &string_of(&rt, "abd"),
-    );
-    find_by_hash(&rt, ascii("abc"), &ascii("abc"), &ascii("abd"));
-}
-
-/// The string of a text that is ASCII.
-fn string_of<R: Abort + AllocGlobal>(rt: &R, source: &str) -> AsciiString {
-    ascii(source)
-        .to_ascii_string(rt.alloc())
-        .expect(rt, "refused")
 }
