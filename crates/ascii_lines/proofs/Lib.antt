@@ -11,6 +11,7 @@ pub mod StepLemmas
 pub mod InputLemmas
 pub mod FinishLemmas
 pub mod TakesLemmas
+pub mod TurnsLemmas
 pub mod WriteBufferLemmas
 pub mod WantedLemmas
 pub mod SkippingLemmas

@@ -8,6 +8,7 @@ pub mod LineReader
 pub mod LineWriter
 pub mod Serve
 pub mod Skipping
+pub mod Turns
 pub mod Wanted
 pub mod WriteBuffer
 pub use Rattle.ascii.specs.Endings

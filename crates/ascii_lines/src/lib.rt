@@ -20,6 +20,7 @@
 //! one after the bytes that were skipped. The reader holds all bytes that it has read from there on.
 #![tactic(auto)]
 
+mod conversation;
 mod errors;
 mod line_buffer;
 mod line_cursor;
@@ -33,6 +34,7 @@ mod wanted;
 pub use ascii::iter::{Ending, Endings};
 pub use ascii::{AsciiChar, AsciiStr, AsciiString};
 pub use ascii_devices::{Channel, DeviceFault, Duplex, Input, Output, Sink, Source};
+pub use conversation::{Conversation, Supply};
 pub use line_reader::{LineError, LineReader, ReadBytes, ReadLine, ReadPart};
 pub use line_writer::{LineWriter, WriteError};
 pub use owned_lines::{Block, BlockEnd, CollectedLines, OwnedLine, collect_lines, read_block};

@@ -194,7 +194,7 @@ impl<K: Sink, A: Allocator> Replies<K, A> {
     }
 
     /// Whether the device has failed.
-    fn is_broken(&self) -> bool
+    pub(crate) fn is_broken(&self) -> bool
         ensures { result ≡ self.now.state.buffer.is_broken }
     {
         self.writer.is_broken()
@@ -566,7 +566,7 @@ fn converse<C: Channel, H: Handler, A: Allocator>(
 }
 
 /// The line or part of these bytes.
-fn input_at(wanted: Wanted, start: u64, bytes: &[u8]) -> ReadLine<'_>
+pub(crate) fn input_at(wanted: Wanted, start: u64, bytes: &[u8]) -> ReadLine<'_>
     requires ascii { IsAscii bytes.now }
     requires one { IsOne wanted bytes.now }
     ensures { IsInputOf wanted bytes.now (read_line_in result).item }

@@ -110,7 +110,7 @@ pub(crate) fn find(wanted: Wanted, text: &[u8], searched: usize) -> Option<usize
 
 /// Rejects a part that does not fit in a buffer of this size, or ends too far.
 #[inline]
-fn may_fit(wanted: Wanted, start: u64, size: usize) -> Result<(), LineError>
+pub(crate) fn may_fit(wanted: Wanted, start: u64, size: usize) -> Result<(), LineError>
     ensures ok { OnOk result (MayFit wanted start size) }
     ensures err { IfErr result (IsUnfit wanted start size) }
 {
@@ -129,7 +129,12 @@ fn may_fit(wanted: Wanted, start: u64, size: usize) -> Result<(), LineError>
 /// The position after the bytes of what is wanted, or why they are not given. If it is not among
 /// them, they are the last of the input.
 #[inline]
-fn end_of(wanted: Wanted, start: u64, bytes: &[u8], is_last: bool) -> Result<u64, LineError>
+pub(crate) fn end_of(
+    wanted: Wanted,
+    start: u64,
+    bytes: &[u8],
+    is_last: bool,
+) -> Result<u64, LineError>
     ensures { IsEndOf wanted start bytes.now is_last result }
 {
     if let Wanted::Part(_) = wanted
@@ -160,7 +165,7 @@ fn find_lone_break(wanted: Wanted, bytes: &[u8]) -> Option<usize>
 
 /// The error of bytes that do not fit in a buffer of this size, or of which the one at `place` is not
 /// ASCII.
-fn refusal(start: u64, place: usize, size: usize) -> LineError
+pub(crate) fn refusal(start: u64, place: usize, size: usize) -> LineError
     ensures { IsRefusal start place size result }
 {
     if place == size {
