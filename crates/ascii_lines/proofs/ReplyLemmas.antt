@@ -13,9 +13,9 @@ use Rattle.ascii_devices.specs.Buffered.{OutputState}
 use Rattle.ascii_lines.specs.Failures.{one_more}
 use Rattle.ascii.specs.Endings.{is_line_break}
 use Rattle.ascii_lines.specs.LineWriter.{FailsToWrite, WritesBytes}
-use Rattle.ascii_lines.specs.Serve.{Reply, IsLineOutcome, Says, SaysBytes, Saying}
-use Rattle.ascii_lines.specs.Serve.{is_unbroken, line_given, line_reply, part_reply, reply_bytes}
-use Rattle.ascii_lines.specs.Serve.{reply_text}
+use Rattle.ascii_lines.specs.Replies.{Reply, IsLineOutcome, Says, SaysBytes, Saying}
+use Rattle.ascii_lines.specs.Replies.{is_unbroken, line_given, line_reply, part_reply, reply_bytes}
+use Rattle.ascii_lines.specs.Replies.{reply_text}
 use Rattle.ascii_lines.proofs.WriteBufferLemmas.{Passes-prefix, Passes-trans}
 use Rattle.ascii_lines.proofs.WriteBufferLemmas.{PassesPrefix-more}
 

@@ -1,4 +1,4 @@
--- Turns of a conversation, one after another.
+-- Steps of a conversation, one after another.
 use Rattle.std.proofs.Common.{◌≡◌, ◌≢◌, ◌⊎◌, ◌∙◌, ℕ, ◌+◌, ◌*◌, ◌-◌, ◌^◌, ◌<◌, ◌≤◌, List, [], ◌∷◌, ◌++◌}
 use Rattle.std.proofs.Common.{Bool, Err, None, Ok, Option, Result, Some, ap, append_assoc, append-nil}
 use Rattle.std.proofs.Common.{arith, drop, false, inl, inr, length, length-append, refl, subst, sym}
@@ -18,8 +18,8 @@ use Rattle.ascii_devices.specs.States.{SourceState}
 use Rattle.ascii_lines.specs.Exchanges.{said_in}
 use Rattle.ascii_lines.specs.LineBuffer.{IsUsable, WindowState}
 use Rattle.ascii_lines.specs.LineReader.{FindsEnd, StopsBy}
-use Rattle.ascii_lines.specs.Serve.{IsInputOf, IsRequest, Reply, Says, Saying, Step, at_end_before}
-use Rattle.ascii_lines.specs.Serve.{rejected, skipped, took}
+use Rattle.ascii_lines.specs.Replies.{IsInputOf, IsRequest, Reply, Says, Saying, Step, at_end_before}
+use Rattle.ascii_lines.specs.Replies.{rejected, skipped, took}
 use Rattle.ascii_lines.specs.Skipping.{HasNoEnd, TakesPart, WhyNotSkipped}
 use Rattle.ascii_lines.specs.Turns.{Completes, Converses, Faults, Finds, GoesTo, IsOver, IsRequested}
 use Rattle.ascii_lines.specs.Turns.{IsSearchedFor, IsLookedFor, IsSound, IsTurn, IsTurnAt, Lacks, Looks}
@@ -164,7 +164,7 @@ skips_more now endings then start bytes left more after skips = elim skips [
 module _ {H : Type 0} (answers : H → Line → List Reply → Next → H → Type 0)
     (refuses : H → LineError → List Reply → Next → H → Type 0) (endings : Endings) (size : ℕ)
     (now : Supply) where
-  -- turns, and then more turns
+  -- steps, and then more steps
   pub Turns-append : (a b c : Place H) (xs ys : List Step)
       → Turns answers refuses endings size now a xs b
       → Turns answers refuses endings size now b ys c
@@ -174,7 +174,7 @@ module _ {H : Type 0} (answers : H → Line → List Reply → Next → H → Ty
   Turns-append a b c (x ∷ xs) ys first then =
       (first.0, first.1, Turns-append first.0 b c xs ys first.2 then)
 
-  -- the bytes that follow change no turn
+  -- the bytes that follow change no step
   turn-more : (a b : Place H) (step : Step) (more : List ℕ)
       → IsTurn answers refuses endings size supply.Open a step b
       → IsTurn answers refuses endings size now (with_more a more) step (with_more b more)
@@ -241,7 +241,31 @@ module _ {H : Type 0} (answers : H → Line → List Reply → Next → H → Ty
     Turns-more turns.0 b steps more turns.2,
   )
 
-  -- the turns of some bytes, and then those of more bytes, are the turns of both together
+  turn-length : (a b : Place H) (step : Step) → IsTurn answers refuses endings size now a step b
+      → a.start + length a.text ≡ b.start + length b.text
+  turn-length a b step turn = go a.awaited step turn
+    where
+      go : (awaited : Awaited) (step : Step) → IsTurnAt answers refuses endings size now awaited a step b
+          → a.start + length a.text ≡ b.start + length b.text
+      go (Input asked) (took input said) t =
+          omega (arith, ap length t.9, length-append t.2 b.text, t.10)
+      go (Input asked) (rejected error said) t = omega (arith, ap length t.7, t.8)
+      go (Input asked) (skipped bytes) t = sym (ap (λ (p : Place H). p.start + length p.text) t.3)
+      go (LineEnd then) (skipped bytes) t =
+          omega (arith, ap length t.1, length-append bytes b.text, t.2)
+      go (LineEnd then) (took input said) t = absurd t
+      go (LineEnd then) (rejected error said) t = absurd t
+      go (Nothing why) step t = absurd t
+
+  -- steps take bytes, and go on after them
+  pub Turns-length : (a b : Place H) (steps : List Step)
+      → Turns answers refuses endings size now a steps b
+      → a.start + length a.text ≡ b.start + length b.text
+  Turns-length a b [] same = sym (ap (λ (p : Place H). p.start + length p.text) same)
+  Turns-length a b (x ∷ steps) turns =
+      turn-length a turns.0 x turns.1 ∙ Turns-length turns.0 b steps turns.2
+
+  -- the steps of some bytes, and then those of more bytes, are the steps of both together
   pub feed-feed : (a b c : Place H) (xs ys : List Step) (more : List ℕ)
       → Turns answers refuses endings size supply.Open a xs b
       → Turns answers refuses endings size now (with_more b more) ys c
@@ -251,44 +275,45 @@ module _ {H : Type 0} (answers : H → Line → List Reply → Next → H → Ty
 
 -- ---- what is awaited
 
-not_over : (awaited : Awaited) → ¬ (IsOver awaited) → (why : Stop) → awaited ≢ Nothing why
-not_over awaited going why is = going (why, is)
-
-pub sound_by : (then : Next) (text : List ℕ) → IsRequest then → IsSound (awaited_by then) text
-sound_by next.Line text request = record {
+pub sound_by : (now : Supply) (then : Next) (text : List ℕ) → IsRequest then
+    → IsSound now (awaited_by then) text
+sound_by now next.Line text request = record {
   request = tt;
   used = λ is. let e : Input next.Line ≡ Nothing stop.EndOfInput = is in cc;
   written = λ is. let e : Input next.Line ≡ Nothing stop.Writer = is in cc;
 }
-sound_by (next.Part n) text request = record {
+sound_by now (next.Part n) text request = record {
   request = request;
   used = λ is. let e : Input (next.Part n) ≡ Nothing stop.EndOfInput = is in cc;
   written = λ is. let e : Input (next.Part n) ≡ Nothing stop.Writer = is in cc;
 }
-sound_by next.Close text request = record {
+sound_by now next.Close text request = record {
   request = tt;
   used = λ is. let e : Nothing stop.Closed ≡ Nothing stop.EndOfInput = is in cc;
   written = λ is. let e : Nothing stop.Closed ≡ Nothing stop.Writer = is in cc;
 }
 
-sound_line : (then : Next) (text : List ℕ) → IsRequest then → IsSound (LineEnd then) text
-sound_line then text request = record {
+sound_line : (now : Supply) (then : Next) (text : List ℕ) → IsRequest then
+    → IsSound now (LineEnd then) text
+sound_line now then text request = record {
   request = request;
   used = λ is. let e : LineEnd then ≡ Nothing stop.EndOfInput = is in cc;
   written = λ is. let e : LineEnd then ≡ Nothing stop.Writer = is in cc;
 }
 
-sound_fault : (error : LineError) (text : List ℕ) → IsSound (Nothing (stop.Reader error)) text
-sound_fault error text = record {
+sound_fault : (now : Supply) (error : LineError) (text : List ℕ)
+    → IsSound now (Nothing (stop.Reader error)) text
+sound_fault now error text = record {
   request = tt;
   used = λ is. let e : Nothing (stop.Reader error) ≡ Nothing stop.EndOfInput = is in cc;
   written = λ is. let e : Nothing (stop.Reader error) ≡ Nothing stop.Writer = is in cc;
 }
 
-sound_end : (text : List ℕ) → text ≡ [] → IsSound (Nothing stop.EndOfInput) text
-sound_end text none = record {
+sound_end : (now : Supply) (text : List ℕ) → now ≡ supply.Ended → text ≡ []
+    → IsSound now (Nothing stop.EndOfInput) text
+sound_end now text ended none = record {
   request = tt;
-  used = λ is. none;
+  used = λ is. (ended, none);
   written = λ is. let e : Nothing stop.EndOfInput ≡ Nothing stop.Writer = is in cc;
 }
 
@@ -297,18 +322,20 @@ left_by next.Line text = omega arith
 left_by (next.Part n) text = omega arith
 left_by next.Close text = omega arith
 
--- ---- turn after turn
+-- ---- step after step
 
 module _ {H K : Type 0} (answers : H → Line → List Reply → Next → H → Type 0)
     (refuses : H → LineError → List Reply → Next → H → Type 0) (endings : Endings) (size : ℕ)
     (now : Supply) (old : Place H) (out : Saying K) where
-  -- turns were taken so far
+  -- steps were taken so far
   pub record Going (new : Place H) (said : Saying K) : Type 0 where
     pub steps : List Step
     pub turns : Turns answers refuses endings size now old steps new
     pub says : Says out (said_in steps) said
     pub request : IsRequested new.awaited
     pub used : new.awaited ≡ Nothing stop.EndOfInput → new.text ≡ []
+    pub ended : new.awaited ≡ Nothing stop.EndOfInput
+        → (old.awaited ≡ Nothing stop.EndOfInput) ⊎ (now ≡ supply.Ended)
     pub failed : new.awaited ≡ Nothing stop.Writer → old.awaited ≡ Nothing stop.Writer
 
   pub Going-first : IsRequested old.awaited
@@ -319,11 +346,12 @@ module _ {H K : Type 0} (answers : H → Line → List Reply → Next → H → 
     says = Says-nil out;
     request = request;
     used = used;
+    ended = λ is. inl is;
     failed = λ is. is;
   }
 
   module _ (mid : Place H) (said : Saying K) (going : Going mid said) where
-    -- one turn more
+    -- one step more
     steps-more : (new : Place H) (after : Saying K) (step : Step)
         → IsTurn answers refuses endings size now mid step new → Says said (said_in (step ∷ [])) after
         → (steps : List Step) × Turns answers refuses endings size now old steps new
@@ -345,6 +373,7 @@ module _ {H K : Type 0} (answers : H → Line → List Reply → Next → H → 
       rests = (going.request, inr (over, going.used));
       closed = inr over;
       written = inl over;
+      ended = going.ended;
       failed = λ is. inl (going.failed is);
     }
 
@@ -375,6 +404,7 @@ module _ {H K : Type 0} (answers : H → Line → List Reply → Next → H → 
           );
           closed = inr (stop.Writer, refl);
           written = inl (stop.Writer, refl);
+          ended = λ is. let e : Nothing stop.Writer ≡ Nothing stop.EndOfInput = is in cc;
           failed = λ is. inr broken;
         }
 
@@ -387,7 +417,7 @@ module _ {H K : Type 0} (answers : H → Line → List Reply → Next → H → 
           (subst (λ e. TurnOutcome answers refuses e size now mid said result new after) same
           (subst (λ n. TurnOutcome answers refuses kind n now mid said result new after) sized turn))
 
-      -- no turn can be taken
+      -- no step can be taken
       pub then_waits : result ≡ false → said.state.buffer.is_broken ≡ false
           → Converses answers refuses endings size now old out new after
       then_waits is whole =
@@ -400,6 +430,7 @@ module _ {H K : Type 0} (answers : H → Line → List Reply → Next → H → 
             rests = (going.request, inl t.3);
             closed = inl t.2;
             written = inr whole;
+            ended = going.ended;
             failed = λ is. inl (going.failed is);
           }))
 
@@ -412,7 +443,8 @@ module _ {H K : Type 0} (answers : H → Line → List Reply → Next → H → 
             turns = more.1;
             says = more.2;
             request = t.3.request;
-            used = t.3.used;
+            used = λ is. (t.3.used is).1;
+            ended = λ is. inr (t.3.used is).0;
             failed = λ is. absurd (t.3.written is);
           }
 
@@ -434,18 +466,146 @@ module _ {H K : Type 0} (answers : H → Line → List Reply → Next → H → 
     rests = rests;
     closed = inl refl;
     written = inl over;
+    ended = λ is. inl is;
     failed = λ is. inl is;
   }
 
--- ---- one turn
+-- a conversation is fed with some bytes, and then with more: the steps are those of both together
+pub feed_joins : {H K : Type 0} (answers : H → Line → List Reply → Next → H → Type 0)
+    (refuses : H → LineError → List Reply → Next → H → Type 0) (a b c : TalkState)
+    (x y z : H) (out mid said : Saying K) (first more : List ℕ) → b.endings ≡ a.endings
+    → b.size ≡ a.size
+    → Converses answers refuses a.endings a.size supply.Open (place_with a x first) out
+    (place_of b y) mid
+    → Converses answers refuses b.endings b.size supply.Open (place_with b y more) mid
+    (place_of c z) said
+    → (steps : List Step) × Turns answers refuses a.endings a.size supply.Open
+    (place_with a x (first ++ more)) steps (place_of c z) × Says out (said_in steps) said
+feed_joins {H} {K} answers refuses a b c x y z out mid said first more same sized one two =
+    let then : Turns answers refuses a.endings a.size supply.Open (place_with b y more) two.steps
+    (place_of c z) =
+    subst (λ e. Turns answers refuses e a.size supply.Open (place_with b y more) two.steps
+    (place_of c z)) same
+    (subst (λ n. Turns answers refuses b.endings n supply.Open (place_with b y more) two.steps
+    (place_of c z)) sized two.turns) in (
+      one.steps ++ two.steps,
+      subst (λ text. Turns answers refuses a.endings a.size supply.Open
+          (place_at a.awaited x a.start text) (one.steps ++ two.steps) (place_of c z))
+          (append_assoc a.held first more)
+          (feed-feed answers refuses a.endings a.size supply.Open (place_with a x first) (place_of b y)
+          (place_of c z) one.steps two.steps more one.turns then),
+      subst (λ replies. Says out replies said) (sym (said-append one.steps two.steps))
+          (Says-trans out mid said (said_in one.steps) (said_in two.steps) one.says two.says),
+    )
 
-left_is : (endings : Endings) (asked : Next) (what : Wanted) → Wants endings asked what
-    → asked ≢ next.Close
-left_is endings next.Line what is = λ e. let d : next.Line ≡ next.Close = e in cc
-left_is endings (next.Part n) what is = λ e. let d : next.Part n ≡ next.Close = e in cc
-left_is endings next.Close what is = absurd is
+-- ---- a read that failed
 
--- what is handed out has a byte
+module _ {H K : Type 0} (answers : H → Line → List Reply → Next → H → Type 0)
+    (refuses : H → LineError → List Reply → Next → H → Type 0) (endings : Endings) (size : ℕ)
+    (handler last : H) (start : ℕ) (text : List ℕ) (out said : Saying K) where
+  abbrev pub Failed : Awaited → H → Awaited → Saying K → Type 0
+  Failed awaited after then now = Converses answers refuses endings size supply.Failed
+      (place_at awaited handler start text) out (place_at then after start text) now
+
+  stopped : (awaited : Awaited) (after : H) (then : Awaited) (now : Saying K) (step : Step)
+      → then ≡ Nothing (stop.Reader fault.Read)
+      → IsTurn answers refuses endings size supply.Failed (place_at awaited handler start text) step
+      (place_at then after start text)
+      → Says out (said_in (step ∷ [])) now → Failed awaited after then now
+  stopped awaited after then now step is turn says = record {
+    steps = step ∷ [];
+    turns = (place_at then after start text, turn, refl);
+    says = says;
+    rests = (
+      subst IsRequested (sym is) tt,
+      inr (
+        (stop.Reader fault.Read, is),
+        λ ends. let e : Nothing (stop.Reader fault.Read) ≡ Nothing stop.EndOfInput =
+            sym is ∙ ends in cc,
+      ),
+    );
+    closed = inr (stop.Reader fault.Read, is);
+    written = inl (stop.Reader fault.Read, is);
+    ended = λ ends. let e : Nothing (stop.Reader fault.Read) ≡ Nothing stop.EndOfInput =
+        sym is ∙ ends in cc;
+    failed = λ ends. let e : Nothing (stop.Reader fault.Read) ≡ Nothing stop.Writer =
+        sym is ∙ ends in cc;
+  }
+
+  -- the handler is told
+  pub fail_asked : (awaited : Awaited) (asked then : Next) (gave : List Reply)
+      → awaited ≡ Input asked → Lacks endings size awaited start text → Says out gave said
+      → refuses handler fault.Read gave then last → IsRequest then
+      → Failed awaited last (Nothing (stop.Reader fault.Read)) said
+  fail_asked awaited asked then gave is lacks says tells request = subst
+      (λ a. Failed a last (Nothing (stop.Reader fault.Read)) said) (sym is)
+      (stopped (Input asked) last (Nothing (stop.Reader fault.Read)) said (rejected fault.Read gave)
+      refl (turn asked (subst (λ a. Lacks endings size a start text) is lacks))
+      (subst (λ rs. Says out rs said) (sym (append-nil gave)) says))
+    where
+      turn : (asked : Next) → Lacks endings size (Input asked) start text
+          → IsTurn answers refuses endings size supply.Failed
+          (place_at (Input asked) handler start text) (rejected fault.Read gave)
+          (place_at (Nothing (stop.Reader fault.Read)) last start text)
+      turn next.Line must = (
+        then,
+        wanted.Line endings,
+        inr (refl, λ _. inl tt),
+        request,
+        refl,
+        tells,
+        (text, [], sym (append-nil text), must, λ _. (refl, refl)),
+        refl,
+        refl,
+      )
+      turn (next.Part n) must = (
+        then,
+        wanted.Part n,
+        inr (refl, λ _. inl tt),
+        request,
+        refl,
+        tells,
+        (text, [], sym (append-nil text), must, λ _. (refl, refl)),
+        refl,
+        refl,
+      )
+      turn next.Close must = absurd must
+
+  -- the rest of a line that was rejected is not read over
+  pub fail_line : (awaited : Awaited) (then : Next) → awaited ≡ LineEnd then
+      → Lacks endings size awaited start text
+      → Failed awaited handler (Nothing (stop.Reader fault.Read)) out
+  fail_line awaited then is lacks = subst
+      (λ a. Failed a handler (Nothing (stop.Reader fault.Read)) out) (sym is)
+      (let free = subst (λ a. Lacks endings size a start text) is lacks in
+      stopped (LineEnd then) handler (Nothing (stop.Reader fault.Read)) out (skipped []) refl (
+        refl,
+        refl,
+        omega arith,
+        inl (inr (inr (inr (
+          fault.Read,
+          refl,
+          λ _. refl,
+          (free.0, free.1),
+        )))),
+      ) (Says-nil out))
+
+  pub fail_over : (awaited : Awaited) → IsOver awaited → Rests endings size awaited start text
+      → Failed awaited handler awaited out
+  fail_over awaited over rests = record {
+    steps = [];
+    turns = refl;
+    says = Says-nil out;
+    rests = rests;
+    closed = inr over;
+    written = inl over;
+    ended = λ is. inl is;
+    failed = λ is. inl is;
+  }
+
+-- ---- one step
+
+-- what is returned has a byte
 ends_some : (endings : Endings) (asked : Next) (what : Wanted) (text : List ℕ) (n : ℕ)
     → Wants endings asked what → IsRequested (Input asked) → EndsAt what text n → 0 < n
 ends_some endings next.Line what text n wants some ends =
@@ -454,7 +614,7 @@ ends_some endings (next.Part count) what text n wants some ends =
     let is : n ≡ count = subst (λ w. EndsAt w text n) wants ends in omega (arith, is, some)
 ends_some endings next.Close what text n wants some ends = absurd wants
 
-some_length : (text : List ℕ) → text ≢ [] → 0 < length text
+pub some_length : (text : List ℕ) → text ≢ [] → 0 < length text
 some_length [] some = absurd (some refl)
 some_length (b ∷ text) some = omega arith
 
@@ -518,7 +678,7 @@ module _ {H K : Type 0} (answers : H → Line → List Reply → Next → H → 
           found.end_is ∙ ap (λ k. start + k) (sym long),
         ),
         subst (λ rs. Says out rs said) (sym (append-nil gave)) says,
-        sound_by then left request,
+        sound_by now then left request,
         omega (arith, left_by then left, ap length all, length-append given left, long, low),
       )
 
@@ -545,8 +705,8 @@ module _ {H K : Type 0} (answers : H → Line → List Reply → Next → H → 
     ),
     subst (λ rs. Says out rs said) (sym (append-nil gave)) says,
     elim goes [
-      | inl e ↦ subst (λ a. IsSound a text) (sym e.0) (sound_line then text request)
-      | inr e ↦ subst (λ a. IsSound a text) (sym e.0) (sound_fault error text)
+      | inl e ↦ subst (λ a. IsSound now a text) (sym e.0) (sound_line now then text request)
+      | inr e ↦ subst (λ a. IsSound now a text) (sym e.0) (sound_fault now error text)
     ],
     elim goes [
       | inl e ↦ subst (λ a. left_of a text < left_of (Input asked) text) (sym e.0) (omega arith)
@@ -564,7 +724,7 @@ module _ {H K : Type 0} (answers : H → Line → List Reply → Next → H → 
         skipped [],
         (stop.EndOfInput, refl, (refl, ended, none), refl),
         Says-nil out,
-        sound_end text none,
+        sound_end now text ended none,
         omega arith,
       )
 
@@ -582,12 +742,12 @@ module _ {H K : Type 0} (answers : H → Line → List Reply → Next → H → 
         (refl, t.1, t.2, inl t.4),
         Says-nil out,
         elim t.4 [
-          | inl e ↦ subst (λ a. IsSound a left) (sym e.0) (sound_by then left asks)
+          | inl e ↦ subst (λ a. IsSound now a left) (sym e.0) (sound_by now then left asks)
           | inr others ↦ elim others [
-            | inl e ↦ subst (λ a. IsSound a left) (sym e.0) (sound_line then left asks)
+            | inl e ↦ subst (λ a. IsSound now a left) (sym e.0) (sound_line now then left asks)
             | inr others ↦ elim others [
-              | inl e ↦ subst (λ a. IsSound a left) (sym e.0) (sound_end left e.3)
-              | inr e ↦ subst (λ a. IsSound a left) (sym e.1) (sound_fault e.0 left)
+              | inl e ↦ subst (λ a. IsSound now a left) (sym e.0) (sound_end now left e.1 e.3)
+              | inr e ↦ subst (λ a. IsSound now a left) (sym e.1) (sound_fault now e.0 left)
             ]
           ]
         ],
@@ -633,19 +793,6 @@ module _ (now : Supply) (what : Wanted) (start : ℕ) (buffer : WindowState) whe
   err_looks (Ok found) error is why = absurd is
   err_looks (Err e) error is why =
       subst (λ e. Looks now what start buffer (Err e)) (sym is) why
-
-  -- a part that does not fit
-  pub unfit_looks : (error : LineError) → IsUnfit what start buffer.size error
-      → Looks now what start buffer (Err error)
-  unfit_looks error unfit = look_faults error
-      (unfit_refuses what start buffer.size buffer.held (is_ended now) source_done error unfit
-      (λ _. refl)).why
-      (λ is. absurd (no_read what (subst (IsUnfit what start buffer.size) is unfit)))
-    where
-      no_read : (w : Wanted) → IsUnfit w start buffer.size fault.Read → ⊥
-      no_read (wanted.Line endings) unfit = unfit
-      no_read (wanted.Bytes endings) unfit = unfit
-      no_read (wanted.Part n) unfit = unfit
 
   module _ (n : ℕ) (is_last : Bool) (finds : FindsEnd what (window_at now buffer) n is_last)
       (last : is_last ≡ true → now ≡ supply.Ended) where
@@ -768,6 +915,12 @@ module _ (now : Supply) (what : Wanted) (start : ℕ) (buffer : WindowState) whe
       );
     }
 
+pub rests_lacks : (endings : Endings) (size : ℕ) (awaited : Awaited) (start : ℕ) (held : List ℕ)
+    → Rests endings size awaited start held → ¬ (IsOver awaited)
+    → Lacks endings size awaited start held
+rests_lacks endings size awaited start held rests apart =
+    elim rests.1 [ inl lacks ↦ lacks | inr over ↦ absurd (apart over.0) ]
+
 -- a conversation that rests has searched all bytes that it holds
 pub rests_searched : (endings : Endings) (size : ℕ) (awaited : Awaited) (start : ℕ)
     (held text more : List ℕ) (n : ℕ) → Rests endings size awaited start held
@@ -791,9 +944,6 @@ module _ (now : Supply) (endings : Endings) (then : Next) (start : ℕ) (text : 
   long_front : length (take n text) ≡ n
   long_front = length-take-le n text within
 
-  whole_text : take n text ++ drop n text ≡ text
-  whole_text = take-append-drop n text
-
   pub skips_end : (after : Awaited) → after ≡ awaited_by then
       → TakesPart endings text (2 ^ 64 - 1 - start) n (Some end.Ending)
       → SkipsTo now endings then start (take n text) (drop n text) after
@@ -802,20 +952,6 @@ module _ (now : Supply) (endings : Endings) (then : Next) (start : ℕ) (text : 
     subst (IsFirstStop endings (take n text)) (sym long_front)
         (ends_front text n n (omega arith) (wanted.Line endings) stop),
   )
-
-  skips_far : TakesPart endings text (2 ^ 64 - 1 - start) n (Some end.Limit)
-      → SkipsTo now endings then start (take n text) (drop n text)
-      (Nothing (stop.Reader fault.TooFar))
-  skips_far (low, more, free, most, kept) = inr (inr (inr (
-    fault.TooFar,
-    refl,
-    λ is. let e : fault.TooFar ≡ fault.Read = is in cc,
-    (
-      omega (arith, ap length whole_text, more),
-      subst (λ xs. FreeUpTo endings xs (2 ^ 64 - 1 - start)) (sym whole_text) free,
-      omega (arith, long_front, most),
-    ),
-  )))
 
   -- the line goes on
   module _ (part : TakesPart endings text (2 ^ 64 - 1 - start) n None) where
@@ -836,33 +972,6 @@ module _ (now : Supply) (endings : Endings) (then : Next) (start : ℕ) (text : 
             )
       ],
     ))
-
-    skips_failed : now ≡ supply.Failed
-        → SkipsTo now endings then start (take n text) (drop n text)
-        (Nothing (stop.Reader fault.Read))
-    skips_failed is = inr (inr (inr (
-      fault.Read,
-      refl,
-      λ _. is,
-      (
-        subst (λ xs. FreeUpTo endings xs (length xs)) (sym whole_text) part.2,
-        omega (arith, length-drop n text, part.1),
-      ),
-    )))
-
--- all bytes that are left are read over
-skips_all : (now : Supply) (endings : Endings) (then : Next) (start : ℕ) (text : List ℕ) (n k : ℕ)
-    → now ≡ supply.Ended → k ≡ length text
-    → TakesPart endings text (2 ^ 64 - 1 - start) n None
-    → SkipsTo now endings then start (take k text) (drop k text) (Nothing stop.EndOfInput)
-skips_all now endings then start text n k is all part =
-    let whole : take k text ≡ text = take_all k text (omega (arith, all)) in
-    inr (inr (inl (
-      refl,
-      is,
-      subst (λ xs. HasNoEnd endings xs) (sym whole) part.2,
-      ap (λ j. drop j text) all ∙ drop-length text,
-    )))
 
 pub skip_taken : (now : Supply) (endings : Endings) (then : Next) (start : ℕ) (text left : List ℕ)
     (n : ℕ) (after : Awaited) → SkipsIn now endings then start text (Some (record { 0 = n; 1 = after }))

@@ -6,6 +6,7 @@ pub mod History
 pub mod LineBuffer
 pub mod LineReader
 pub mod LineWriter
+pub mod Replies
 pub mod Serve
 pub mod Skipping
 pub mod Turns

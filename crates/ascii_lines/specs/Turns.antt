@@ -1,16 +1,16 @@
--- The turns of a conversation: what a handler makes of bytes, one after another, whatever they come
+-- The steps of a conversation: what a handler makes of bytes, one after another, whatever they come
 -- from.
 use Rattle.std.specs.Prelude.{◌≡◌, ◌≢◌, ◌⊎◌, ℕ, ◌+◌, ◌*◌, ◌-◌, ◌^◌, ◌<◌, ◌≤◌, List, [], ◌∷◌, ◌++◌}
 use Rattle.std.specs.Prelude.{Bool, Err, None, Ok, Some, drop, false, length, take, true, ⊤}
 use Rattle.std.specs.declared.option.Option.{Option}
 use Rattle.std.specs.declared.result.Result.{Result}
-use Rattle.ascii.specs.Endings.{IsFirstStop, any_text}
+use Rattle.ascii.specs.Endings.{FreeUpTo, IsFirstStop, any_text}
 use Rattle.ascii.specs.Lines.{Line}
 use Rattle.ascii.specs.declared.iter.spans.Endings.{Endings}
 use Rattle.ascii_lines.specs.Exchanges.{said_in}
 use Rattle.ascii_lines.specs.LineBuffer.{WindowState}
-use Rattle.ascii_lines.specs.Serve.{IsInputOf, IsRequest, Reply, Says, Saying, Step, at_end_before}
-use Rattle.ascii_lines.specs.Serve.{rejected, skipped, took}
+use Rattle.ascii_lines.specs.Replies.{IsInputOf, IsRequest, Reply, Says, Saying, Step, at_end_before}
+use Rattle.ascii_lines.specs.Replies.{rejected, skipped, took}
 use Rattle.ascii_lines.specs.Skipping.{HasNoEnd, IsCleanCut, IsFinal, WhyNotSkipped}
 use Rattle.ascii_lines.specs.Wanted.{EndsAt, IsOne, MayBeLast, MayHave, MustRead, Rejects}
 use Rattle.ascii_lines.specs.declared.conversation.Awaited.{Awaited}
@@ -49,7 +49,7 @@ abbrev pub awaited_by : Next → Awaited
 awaited_by next.Close = Nothing stop.Closed
 awaited_by asked = Input asked
 
--- ---- one turn
+-- ---- one step
 
 -- what is asked for, as what is looked for in bytes
 abbrev pub Wants : Endings → Next → Wanted → Type 0
@@ -61,12 +61,6 @@ Wants endings next.Close what = ⊥
 abbrev pub is_ended : Supply → Bool
 is_ended supply.Ended = true
 is_ended other = false
-
--- `bytes` are all of what is wanted, or a line without an ending at the end of the input: `left` are
--- those after them
-abbrev pub Completes : Supply → Wanted → List ℕ → List ℕ → Type 0
-Completes now what bytes left = EndsAt what bytes (length bytes)
-    ⊎ ((now ≡ supply.Ended) × (left ≡ []) × MayBeLast what true)
 
 -- the bytes, which start at the position `start` of the input, have this error in place of what is
 -- wanted: some of them show it, or all of them and the end of the input. `Read`: more bytes were to
@@ -91,8 +85,8 @@ GoesTo asked error then after =
 abbrev pub SkipsTo : Supply → Endings → Next → ℕ → List ℕ → List ℕ → Awaited → Type 0
 SkipsTo now endings then start bytes left after =
     ((after ≡ awaited_by then) × IsFirstStop endings bytes (length bytes))
-    ⊎ ((after ≡ LineEnd then) × HasNoEnd endings bytes × IsCleanCut endings bytes left)
-    ⊎ ((after ≡ Nothing stop.EndOfInput) × (now ≡ supply.Ended) × HasNoEnd endings bytes
+    ⊎ ((after ≡ LineEnd then) × FreeUpTo endings bytes (length bytes) × IsCleanCut endings bytes left)
+    ⊎ ((after ≡ Nothing stop.EndOfInput) × (now ≡ supply.Ended) × FreeUpTo endings bytes (length bytes)
     × (left ≡ []))
     ⊎ ((error : LineError) × (after ≡ Nothing (stop.Reader error))
     × (error ≡ Read → now ≡ supply.Failed)
@@ -109,14 +103,16 @@ Stops now asked text other = ⊥
 module _ {H : Type 0} (answers : H → Line → List Reply → Next → H → Type 0)
     (refuses : H → LineError → List Reply → Next → H → Type 0) (endings : Endings) (size : ℕ)
     (now : Supply) where
-  -- one turn of a conversation in which `awaited` is awaited, with a buffer of `size` bytes. `took`:
+  -- one step of a conversation in which `awaited` is awaited, with a buffer of `size` bytes. `took`:
   -- the handler is given the line or part that it asked for. `rejected`: it is told of an error in
   -- its place. `skipped`: bytes of a line that was rejected are read over; or none, and the
   -- conversation stops
   abbrev pub IsTurnAt : Awaited → Place H → Step → Place H → Type 0
   IsTurnAt (Input asked) old (took input said) new = (then : Next) × (what : Wanted)
       × (bytes : List ℕ) × (new.awaited ≡ awaited_by then) × IsRequest then
-      × Wants endings asked what × IsInputOf what bytes input × Completes now what bytes new.text
+      × Wants endings asked what × IsInputOf what bytes input
+      × (EndsAt what bytes (length bytes)
+      ⊎ ((now ≡ supply.Ended) × (new.text ≡ []) × MayBeLast what true))
       × answers old.handler input said then new.handler
       × (old.text ≡ bytes ++ new.text) × (new.start ≡ old.start + length bytes)
   IsTurnAt (Input asked) old (rejected error said) new = (then : Next) × (what : Wanted)
@@ -132,15 +128,13 @@ module _ {H : Type 0} (answers : H → Line → List Reply → Next → H → Ty
       ⊎ ((new.awaited ≡ Nothing stop.Writer) × (bytes ≡ [])))
   IsTurnAt awaited old step new = ⊥
 
-  abbrev pub IsTurn : Place H → Step → Place H → Type 0
-  IsTurn old step new = IsTurnAt old.awaited old step new
-
-  -- turns, one after another
+  -- steps, one after another
   abbrev pub Turns : Place H → List Step → Place H → Type 0
   Turns old [] new = new ≡ old
-  Turns old (step ∷ steps) new = (mid : Place H) × IsTurn old step mid × Turns mid steps new
+  Turns old (step ∷ steps) new = (mid : Place H)
+      × IsTurnAt old.awaited old step mid × Turns mid steps new
 
--- ---- when no turn can be taken
+-- ---- when no step can be taken
 
 -- what is awaited is not among the bytes, which start at the position `start` of the input, nor is a
 -- fault of it: they fit in the buffer of `size` bytes, and no line ends in them, or they are fewer
@@ -149,7 +143,7 @@ abbrev pub Lacks : Endings → ℕ → Awaited → ℕ → List ℕ → Type 0
 Lacks endings size (Input next.Line) start text = MustRead (wanted.Line endings) start size text
 Lacks endings size (Input (next.Part n)) start text = MustRead (wanted.Part n) start size text
 Lacks endings size (LineEnd then) start text =
-    HasNoEnd (any_text endings) text × (length text ≤ 1) × (start + length text < 2 ^ 64)
+    FreeUpTo (any_text endings) text (length text) × (length text ≤ 1) × (start + length text < 2 ^ 64)
 Lacks endings size awaited start text = ⊥
 
 -- a handler has asked for what is awaited: a line, or a part of one byte at least
@@ -159,7 +153,7 @@ IsRequested (Input asked) = IsRequest asked
 IsRequested (LineEnd then) = IsRequest then
 IsRequested (Nothing why) = ⊤
 
--- no turn can be taken before more bytes come: what is awaited is not among these; or the
+-- no step can be taken before more bytes come: what is awaited is not among these; or the
 -- conversation is over, and has used all of them if it ended with the input
 abbrev pub Rests : Endings → ℕ → Awaited → ℕ → List ℕ → Type 0
 Rests endings size awaited start text = IsRequested awaited
@@ -169,7 +163,7 @@ Rests endings size awaited start text = IsRequested awaited
 module _ {H K : Type 0} (answers : H → Line → List Reply → Next → H → Type 0)
     (refuses : H → LineError → List Reply → Next → H → Type 0) (endings : Endings) (size : ℕ)
     (now : Supply) where
-  -- turns were taken, and their replies given in order; and none is left. If the bytes are all that
+  -- steps were taken, and their replies given in order; and none is left. If the bytes are all that
   -- will come, the conversation is over; and so it is if the replies could not be written, which is
   -- the reason only if it was not over before
   pub record Converses (old : Place H) (out : Saying K) (new : Place H) (said : Saying K) : Type 0
@@ -180,6 +174,8 @@ module _ {H K : Type 0} (answers : H → Line → List Reply → Next → H → 
       pub rests : Rests endings size new.awaited new.start new.text
       pub closed : (now ≡ supply.Open) ⊎ IsOver new.awaited
       pub written : IsOver new.awaited ⊎ (said.state.buffer.is_broken ≡ false)
+      pub ended : new.awaited ≡ Nothing stop.EndOfInput
+          → (old.awaited ≡ Nothing stop.EndOfInput) ⊎ (now ≡ supply.Ended)
       pub failed : new.awaited ≡ Nothing stop.Writer
           → (old.awaited ≡ Nothing stop.Writer) ⊎ (said.state.buffer.is_broken ≡ true)
 
@@ -225,6 +221,11 @@ fresh_talk size endings = record {
   is_at_end = false;
 }
 
+-- whether more bytes can come, by whether a read has returned none
+abbrev pub supply_at : Bool → Supply
+supply_at true = supply.Ended
+supply_at false = supply.Open
+
 -- why a conversation is over, if it is
 abbrev pub stop_of : Awaited → Option Stop
 stop_of (Nothing why) = Some why
@@ -232,32 +233,45 @@ stop_of other = None
 
 -- ---- cited by private functions only
 
+-- `bytes` are all of what is wanted, or a line without an ending at the end of the input: `left` are
+-- those after them
+abbrev pub Completes : Supply → Wanted → List ℕ → List ℕ → Type 0
+Completes now what bytes left = EndsAt what bytes (length bytes)
+    ⊎ ((now ≡ supply.Ended) × (left ≡ []) × MayBeLast what true)
+
 -- a place, of its parts
 abbrev pub place_at : {H : Type 0} → Awaited → H → ℕ → List ℕ → Place H
 place_at awaited handler start text =
     record { awaited = awaited; handler = handler; start = start; text = text }
 
--- a measure of what is left to do: each turn takes bytes, goes from a line to its end, or stops
+-- a measure of what is left to do: each step takes bytes, goes from a line to its end, or stops
 abbrev pub left_of : Awaited → List ℕ → ℕ
 left_of (Input asked) text = 2 * length text + 2
 left_of (LineEnd then) text = 2 * length text + 1
 left_of (Nothing why) text = 0
 
--- what a turn leaves: something that was asked for; and it has not stopped since the replies could
+-- what a step leaves: something that was asked for; and it has not stopped since the replies could
 -- not be written, nor at the end of the input before all bytes were used
-pub record IsSound (awaited : Awaited) (text : List ℕ) : Type 0 where
+pub record IsSound (now : Supply) (awaited : Awaited) (text : List ℕ) : Type 0 where
   pub request : IsRequested awaited
-  pub used : awaited ≡ Nothing stop.EndOfInput → text ≡ []
+  pub used : awaited ≡ Nothing stop.EndOfInput → (now ≡ supply.Ended) × (text ≡ [])
   pub written : awaited ≢ Nothing stop.Writer
+
+module _ {H : Type 0} (answers : H → Line → List Reply → Next → H → Type 0)
+    (refuses : H → LineError → List Reply → Next → H → Type 0) (endings : Endings) (size : ℕ)
+    (now : Supply) where
+  -- one step of a conversation
+  abbrev pub IsTurn : Place H → Step → Place H → Type 0
+  IsTurn old step new = IsTurnAt answers refuses endings size now old.awaited old step new
 
 module _ {H K : Type 0} (answers : H → Line → List Reply → Next → H → Type 0)
     (refuses : H → LineError → List Reply → Next → H → Type 0) (endings : Endings) (size : ℕ)
     (now : Supply) where
-  -- the outcome of one turn: it was taken; or there is none before more bytes come
+  -- the outcome of one step: it was taken; or there is none before more bytes come
   abbrev pub TurnOutcome : Place H → Saying K → Bool → Place H → Saying K → Type 0
   TurnOutcome old out true new said = (step : Step)
       × IsTurn answers refuses endings size now old step new × Says out (said_in (step ∷ [])) said
-      × IsSound new.awaited new.text × (left_of new.awaited new.text < left_of old.awaited old.text)
+      × IsSound now new.awaited new.text × (left_of new.awaited new.text < left_of old.awaited old.text)
   TurnOutcome old out false new said = (new ≡ old) × (said ≡ out) × (now ≡ supply.Open)
       × Lacks endings size old.awaited old.start old.text
 

@@ -1,15 +1,23 @@
 //! A conversation without a device: bytes are fed as they come, and the replies go to any sink.
 //!
-//! `feed` takes bytes that came, and carries out each turn that they complete: the handler answers each line, or each
-//! part that it has asked for, and is told of each error in their place. So an event loop drives it: bytes arrive and
-//! are fed, what is pending is sent, and at the end of the input `end` is called. How the bytes are cut changes
-//! nothing: feeding `a` and then `b` is feeding both together. `serve` is a loop over it, for a device of both
-//! directions.
+//! `feed` takes bytes that came and carries out every step that they complete: the handler answers each line, or each
+//! part that it has asked for, and is told of each error in their place. At the end of the input a caller calls `end`,
+//! or `fail` if the source has failed. The caller reads and writes: so an event loop can drive the conversation.
+//!
+//! | When | Call |
+//! |---|---|
+//! | bytes came | `feed`, again with the bytes that it did not take |
+//! | the input has ended, or its source has failed | `end`, `fail` |
+//! | the replies were sent | `is_closed`, and `stop` for the reason |
+//!
+//! How the bytes are cut changes nothing: feeding one piece and then another is feeding both together. A contract speaks
+//! of the bytes that were fed, of what is awaited, and of the replies; no call has a condition. `serve` is a loop over a
+//! conversation, for a device of both directions.
 
 ghost use Rattle.std.specs.Prelude.{◌≡◌, ◌≢◌, ◌⊎◌, ◌<◌, ◌≤◌, ◌++◌, ◌↔◌, [], IfOk, IsTrue, length, take, true};
 ghost use Rattle.ascii.specs.Endings.{any_text};
 ghost use Rattle.ascii_lines.specs.LineReader.{FindsEnd};
-ghost use Rattle.ascii_lines.specs.Turns.{GoesTo, IsLookedFor, IsOver, Looks, SkipTurn, SkipsIn};
+ghost use Rattle.ascii_lines.specs.Turns.{GoesTo, IsLookedFor, IsOver, Looks, SkipsIn};
 ghost use Rattle.ascii_lines.specs.Turns.{awaited_by, fresh_talk, window_at};
 
 use crate::line_buffer::LineBuffer;
@@ -18,7 +26,7 @@ use crate::serving::{Handler, Next, Replies, Stop, input_at};
 use crate::skipping::{PassEnd, is_final, part_of_line, whole_endings};
 use crate::wanted::{Wanted, end_of, find, may_fit, refusal};
 use ascii::iter::Endings;
-use ascii_devices::Sink;
+use ascii_devices::{Channel, Sink};
 use std::alloc::{AllocError, Allocator, Global};
 use std::marker::Model;
 
@@ -71,6 +79,10 @@ impl<A: Allocator> Model for Conversation<A> {
 impl Conversation {
     /// Creates a conversation that awaits a line by these endings, with a buffer of `size` bytes, or returns an error
     /// if the allocation fails. No later call allocates.
+    ///
+    ///     let talk = Conversation::new(alloc, 64, Endings::Any)?;
+    ///     talk.position() // 0
+    ///     talk.is_closed() // false
     pub fn new(alloc: Global, size: usize, endings: Endings) -> Result<Conversation, AllocError>
         ensures { IfOk result (λ talk. talk ≡ fresh_talk size endings) }
     {
@@ -86,11 +98,26 @@ impl Conversation {
 }
 
 impl<A: Allocator> Conversation<A> {
-    ghost use Rattle.ascii_lines.specs.Turns.{Converses, place_of, place_with, stop_of};
+    ghost use Rattle.std.specs.Prelude.{false};
+    ghost use Rattle.ascii_lines.specs.Serve.{ReadsOn};
+    ghost use Rattle.ascii_lines.specs.Turns.{Converses, place_of, place_with, stop_of, supply_at};
 
-    /// Takes bytes that came, as many as there is room for, and carries out every turn that they complete. Returns
-    /// the number of bytes taken: at least one if there is one, unless the conversation is over. The caller feeds the
-    /// other bytes in a later call.
+    /// Takes bytes that came, as many as there is room for, and carries out every step that they complete. Returns
+    /// the number of bytes that were taken: at least one, unless there are none or the conversation is over.
+    ///
+    /// The caller feeds the other bytes in a later call. A conversation that is over takes none. If the sink of the
+    /// replies fails, the handler is not asked again, and the conversation is over.
+    ///
+    /// In the examples, `Echo` is a handler that replies with the text that it is handed, and to an error with `no`.
+    ///
+    ///     let mut talk = Conversation::new(alloc, 64, Endings::Any)?;
+    ///     let writer = LineWriter::new(alloc, Output::new(Vec::new(alloc)), 64)?;
+    ///     let mut replies = Replies::new(writer, Ending::Lf);
+    ///     talk.feed(&mut Echo, b"ab\nc", &mut replies) // 4
+    ///     talk.position() // 3
+    ///     let mut writer = replies.into_writer();
+    ///     writer.flush() // Ok(())
+    ///     writer.into_sink().into_inner() // [97, 98, 10]
     pub fn feed<H: Handler, K: Sink, B: Allocator>(
         &mut self,
         handler: &mut H,
@@ -118,8 +145,18 @@ impl<A: Allocator> Conversation<A> {
         n
     }
 
-    /// Tells the handler that the input has ended: the bytes that are held are the last line, or there is an error in
-    /// place of what was asked for. Then the conversation is over.
+    /// Carries out the steps of the end of the input: the handler answers the bytes that are held as a line without an
+    /// ending, or is told of an error in place of what it asked for. Then the conversation is over.
+    ///
+    ///     let mut talk = Conversation::new(alloc, 64, Endings::Any)?;
+    ///     let writer = LineWriter::new(alloc, Output::new(Vec::new(alloc)), 64)?;
+    ///     let mut replies = Replies::new(writer, Ending::Lf);
+    ///     talk.feed(&mut Echo, b"ab", &mut replies) // 2
+    ///     talk.end(&mut Echo, &mut replies);
+    ///     talk.stop() // Some(EndOfInput)
+    ///     let mut writer = replies.into_writer();
+    ///     writer.flush() // Ok(())
+    ///     writer.into_sink().into_inner() // [97, 98, 10]
     pub fn end<H: Handler, K: Sink, B: Allocator>(
         &mut self,
         handler: &mut H,
@@ -137,8 +174,14 @@ impl<A: Allocator> Conversation<A> {
             .converse(handler, replies, Supply::Ended, searched);
     }
 
-    /// Tells the handler that the source of the input has failed: `Read` is the error in place of what was asked for.
-    /// Then the conversation is over.
+    /// Tells the handler that the source of the input has failed, by the error `Read`, in place of what it asked for.
+    /// Then the conversation is over. In the rest of a line that was rejected, the handler is not told.
+    ///
+    ///     let mut talk = Conversation::new(alloc, 64, Endings::Any)?;
+    ///     let writer = LineWriter::new(alloc, Output::new(Vec::new(alloc)), 64)?;
+    ///     let mut replies = Replies::new(writer, Ending::Lf);
+    ///     talk.fail(&mut Echo, &mut replies);
+    ///     talk.stop() // Some(Reader(Read))
     pub fn fail<H: Handler, K: Sink, B: Allocator>(
         &mut self,
         handler: &mut H,
@@ -151,12 +194,53 @@ impl<A: Allocator> Conversation<A> {
         ensures endings { self.new.endings ≡ self.old.endings }
         ensures at_end { self.new.is_at_end ≡ self.old.is_at_end }
     {
-        let searched = self.dialogue.buffer.len();
-        self.dialogue
-            .converse(handler, replies, Supply::Failed, searched);
+        self.dialogue.fail(handler, replies);
     }
 
-    /// Whether the conversation is over.
+    /// Awaits a line, whatever was awaited before, and carries out every step that the bytes that are held complete.
+    pub(crate) fn resume<H: Handler, K: Sink, B: Allocator>(
+        &mut self,
+        handler: &mut H,
+        replies: &mut Replies<K, B>,
+    )
+        ensures converses { Converses H.answers H.refuses self.old.endings self.old.size
+            (supply_at self.old.is_at_end)
+            (place_of (record self.old { awaited = Awaited.Input Next.Line }) handler.old)
+            replies.old (place_of self.new handler.new) replies.new }
+        ensures size { self.new.size ≡ self.old.size }
+        ensures endings { self.new.endings ≡ self.old.endings }
+        ensures at_end { self.new.is_at_end ≡ self.old.is_at_end }
+    {
+        self.dialogue.awaited = Awaited::Input(Next::Line);
+        let supply = self.dialogue.supply();
+        self.dialogue.converse(handler, replies, supply, 0);
+    }
+
+    /// Reads the device of the replies once, and carries out every step that the bytes complete.
+    pub(crate) fn read<H: Handler, C: Channel, B: Allocator>(
+        &mut self,
+        handler: &mut H,
+        replies: &mut Replies<C, B>,
+    )
+        requires going { ¬ (IsOver self.old.awaited) }
+        requires more { self.old.is_at_end ≡ false }
+        ensures { ReadsOn H.answers H.refuses self.old handler.old replies.old self.new handler.new
+            replies.new }
+    {
+        let searched = self.dialogue.buffer.len();
+        match replies.fill(&mut self.dialogue.buffer) {
+            Ok(()) => {
+                let supply = self.dialogue.supply();
+                self.dialogue.converse(handler, replies, supply, searched);
+            }
+            Err(_) => self.dialogue.fail(handler, replies),
+        }
+    }
+
+    /// Returns `true` if the conversation is over.
+    ///
+    ///     let talk = Conversation::new(alloc, 64, Endings::Any)?;
+    ///     talk.is_closed() // false
     pub fn is_closed(&self) -> bool
         ensures { IsTrue result ↔ IsOver self.now.awaited }
     {
@@ -164,6 +248,9 @@ impl<A: Allocator> Conversation<A> {
     }
 
     /// Returns why the conversation is over, or `None` if it is not.
+    ///
+    ///     let talk = Conversation::new(alloc, 64, Endings::Any)?;
+    ///     talk.stop() // None
     pub fn stop(&self) -> Option<Stop>
         ensures { result ≡ stop_of self.now.awaited }
     {
@@ -176,6 +263,9 @@ impl<A: Allocator> Conversation<A> {
     /// Returns the position in the input at which the next line or part starts, counted from 0. After an error it is
     /// that of the line or part at fault; after an error in the rest of a line that was rejected, the one after the
     /// bytes of it that were skipped.
+    ///
+    ///     let talk = Conversation::new(alloc, 64, Endings::Any)?;
+    ///     talk.position() // 0
     pub fn position(&self) -> u64
         ensures { result ≡ self.now.start }
     {
@@ -183,7 +273,7 @@ impl<A: Allocator> Conversation<A> {
     }
 }
 
-/// Where a conversation is, also between its turns.
+/// Where a conversation is, also between its steps.
 #[derive(Drop)]
 struct Dialogue<A: Allocator> {
     buffer: LineBuffer<A>,
@@ -194,8 +284,9 @@ struct Dialogue<A: Allocator> {
 }
 
 impl<A: Allocator> Dialogue<A> {
-    ghost use Rattle.ascii_lines.specs.Turns.{Converses, Finds, IsRequested, IsSearchedFor};
-    ghost use Rattle.ascii_lines.specs.Turns.{TurnOutcome, Wants, place_at};
+    ghost use Rattle.ascii_lines.specs.Serve.{IsUnread};
+    ghost use Rattle.ascii_lines.specs.Turns.{Converses, Finds, IsRequested, IsSearchedFor, Rests};
+    ghost use Rattle.ascii_lines.specs.Turns.{SkipTurn, TurnOutcome, Wants, place_at, supply_at};
 
     /// Whether nothing is awaited.
     fn is_over(&self) -> bool
@@ -204,7 +295,54 @@ impl<A: Allocator> Dialogue<A> {
         matches!(self.awaited, Awaited::Nothing(_))
     }
 
-    /// Takes all turns that can be taken. The first `searched` bytes were searched.
+    /// Whether more bytes can come: they cannot once a read has returned none.
+    fn supply(&self) -> Supply
+        ensures { result ≡ supply_at self.now.buffer.is_at_end }
+    {
+        if self.buffer.is_at_end() {
+            Supply::Ended
+        } else {
+            Supply::Open
+        }
+    }
+
+    /// Tells the handler that the source has failed, if it awaits an input.
+    fn fail<H: Handler, K: Sink, B: Allocator>(
+        &mut self,
+        handler: &mut H,
+        replies: &mut Replies<K, B>,
+    )
+        requires { Rests self.old.endings self.old.buffer.size self.old.awaited self.old.start
+            self.old.buffer.held }
+        ensures converses { Converses H.answers H.refuses self.old.endings self.old.buffer.size
+            Supply.Failed
+            (place_at self.old.awaited handler.old self.old.start self.old.buffer.held)
+            replies.old
+            (place_at self.new.awaited handler.new self.new.start self.new.buffer.held)
+            replies.new }
+        ensures unread { IsOver self.old.awaited
+            ⊎ ((why : Stop) × (self.new.awaited ≡ Awaited.Nothing why) × IsUnread why) }
+        ensures buffer { self.new.buffer ≡ self.old.buffer }
+        ensures endings { self.new.endings ≡ self.old.endings }
+    {
+        if self.is_over() {
+            return;
+        }
+        if replies.is_broken() {
+            self.awaited = Awaited::Nothing(Stop::Writer);
+            return;
+        }
+        match self.awaited {
+            Awaited::Input(_) => {
+                let _next = handler.refuse(LineError::Read, replies);
+                self.awaited = Awaited::Nothing(Stop::Reader(LineError::Read));
+            }
+            Awaited::LineEnd(_) => self.awaited = Awaited::Nothing(Stop::Reader(LineError::Read)),
+            Awaited::Nothing(_) => {}
+        }
+    }
+
+    /// Takes all steps that can be taken. The first `searched` bytes were searched.
     fn converse<H: Handler, K: Sink, B: Allocator>(
         &mut self,
         handler: &mut H,
@@ -241,7 +379,7 @@ impl<A: Allocator> Dialogue<A> {
         }
     }
 
-    /// Takes a turn, if one can be taken.
+    /// Takes a step, if one can be taken.
     fn turn<H: Handler, K: Sink, B: Allocator>(
         &mut self,
         handler: &mut H,

@@ -4,7 +4,8 @@ ghost use Rattle.std.specs.Prelude.{◌≡◌, ◌+◌, ◌<◌, ◌≤◌, ◌+
 ghost use Rattle.std.specs.Prelude.{drop, length, slice_range, take};
 ghost use Rattle.ascii_devices.specs.States.{source_state};
 ghost use Rattle.ascii_lines.specs.Turns.{PutsBehind};
-ghost use Rattle.ascii_lines.specs.LineBuffer.{IsAsciiLength, IsUsable, ReadsBehind, Refills};
+ghost use Rattle.ascii_lines.specs.LineBuffer.{Fills, IsAsciiLength, IsUsable, ReadsBehind};
+ghost use Rattle.ascii_lines.specs.LineBuffer.{Refills};
 
 use crate::wanted::Wanted;
 use ascii::kernels::first_other;
@@ -149,6 +150,7 @@ impl<A: Allocator> LineBuffer<A> {
         ensures size { self.new.size ≡ self.old.size }
         ensures room { self.new.room ≡ self.old.room }
         ensures spare { self.new.spare + length self.new.held ≡ self.new.room }
+        ensures roomy { (self.new.size < self.new.room) × (1 < self.new.room) }
         ensures at_end { self.new.is_at_end ≡ self.old.is_at_end }
     {
         if self.from > 0 {
@@ -171,6 +173,21 @@ impl<A: Allocator> LineBuffer<A> {
         }
         self.filled += n;
         n
+    }
+
+    /// Reads more bytes after those that it holds, by one call of the source, unless calls have failed
+    /// `u64::MAX` times.
+    pub(crate) fn fill<S: Source>(&mut self, source: &mut S) -> Result<(), DeviceFault>
+        requires more { self.old.is_at_end ≡ false }
+        requires room { (length self.old.held ≤ self.old.size) ⊎ (length self.old.held ≤ 1) }
+        ensures { Fills self.old self.new (source_state S.Source source.old)
+            (source_state S.Source source.new) result }
+    {
+        self.move_to_front();
+        if source.failures() == u64::MAX {
+            return Err(DeviceFault);
+        }
+        self.refill(source)
     }
 
     /// Reads more bytes after those that it holds, by one call of the source.

@@ -1,9 +1,9 @@
 //! What a reader is asked for, and the search for it in a buffer.
 
-ghost use Rattle.std.specs.Prelude.{◌≡◌, ◌≤◌, ◌↔◌, IfErr, IfOk, IsTrue, MatchOption, OnOk, length};
+ghost use Rattle.std.specs.Prelude.{◌≡◌, ◌≤◌, IfErr, IfOk, MatchOption, OnOk, length};
 ghost use Rattle.ascii_devices.specs.States.{source_state};
 ghost use Rattle.ascii_lines.specs.LineReader.{Seeks, TakesOff};
-ghost use Rattle.ascii_lines.specs.Wanted.{EndsAt, LacksUpTo, MustRead, Refuses};
+ghost use Rattle.ascii_lines.specs.Wanted.{EndsAt, LacksUpTo, Refuses};
 ghost use Rattle.ascii_lines.specs.Wanted.{FindsFault, IsEndOf, IsRefusal, IsSearched, IsUnfit};
 ghost use Rattle.ascii_lines.specs.Wanted.{KnowsEnd, MayFit};
 
@@ -46,16 +46,6 @@ pub(crate) fn take_wanted<S: Source, A: Allocator>(
     let end = end_of(wanted, start, buffer.front(n), is_last)?;
     buffer.take(n);
     Ok((end, is_last))
-}
-
-/// Whether the source has to be read for what is wanted.
-pub(crate) fn must_read<A: Allocator>(buffer: &LineBuffer<A>, wanted: Wanted, start: u64) -> bool
-    ensures { IsTrue result ↔ MustRead wanted start buffer.now.size buffer.now.held }
-{
-    let text = buffer.usable(wanted);
-    may_fit(wanted, start, buffer.size()).is_ok()
-        && text.len() == buffer.len()
-        && find(wanted, text, 0).is_none()
 }
 
 /// Reads the source until what is wanted is in the buffer. Returns the number of its bytes, or of all if it

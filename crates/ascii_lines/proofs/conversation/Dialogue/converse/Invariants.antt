@@ -3,7 +3,7 @@ use Rattle.ascii_lines.specs.Turns.{IsOver, IsSearchedFor, left_of, place_at}
 use Rattle.ascii_lines.proofs.TurnsLemmas.{Going}
 use Rattle.ascii_lines.proofs.conversation.Dialogue.converse.Given as goal
 
--- turns were taken so far
+-- steps were taken so far
 abbrev pub invariant-turns : goal.invariant-turns
 invariant-turns g l = Going g.H.Handler.answers g.H.Handler.refuses l.fn.self.endings
     l.fn.self.buffer.size l.fn.supply

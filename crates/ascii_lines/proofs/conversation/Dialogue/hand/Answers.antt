@@ -1,6 +1,6 @@
 use Rattle.std.proofs.Common.{refl, subst, sym}
 use Rattle.ascii_lines.specs.LineReader.{read_line_in}
-use Rattle.ascii_lines.specs.Serve.{IsInputOf}
+use Rattle.ascii_lines.specs.Replies.{IsInputOf}
 use Rattle.ascii_lines.specs.Turns.{TurnOutcome, place_at}
 use Rattle.ascii_lines.specs.declared.conversation.Awaited.TheVariants.{Input}
 use Rattle.std.proofs.Common.{true}
