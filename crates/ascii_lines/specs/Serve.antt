@@ -167,6 +167,12 @@ pub record Greets {C : Type 0} (old : Conversing C) (body : List ℕ)
   pub talk : new.state.talk ≡ old.state.talk
   pub ending : new.state.ending ≡ old.state.ending
 
+-- the replies were sent, or not, as by a writer
+abbrev pub SendsOut : {K : Type 0}
+    → Saying K → Result (Unit {0}) WriteError → Saying K → Type 0
+SendsOut old result new = FlushesOutcome (record { sink = old.sink; state = old.state }) result
+    (record { sink = new.sink; state = new.state }) × (new.ending ≡ old.ending)
+
 -- ---- cited by private functions only
 
 -- where a server begins: it awaits a line, and `received` come after the bytes that the channel holds
@@ -187,12 +193,6 @@ SentBy true sent held all = (others : List ℕ) × (sent ++ others ≡ all)
 abbrev pub CountsBy : Bool → ℕ → ℕ → Type 0
 CountsBy false old new = new ≡ old
 CountsBy true old new = new ≡ one_more old
-
--- the replies were sent, or not, as by a writer
-abbrev pub SendsOut : {K : Type 0}
-    → Saying K → Result (Unit {0}) WriteError → Saying K → Type 0
-SendsOut old result new = FlushesOutcome (record { sink = old.sink; state = old.state }) result
-    (record { sink = new.sink; state = new.state }) × (new.ending ≡ old.ending)
 
 -- a channel as a place for replies
 abbrev pub saying_of : {C : Type 0} → Conversing C → Saying C

@@ -180,8 +180,15 @@ impl<K: Sink, A: Allocator> Replies<K, A> {
         self.writer.is_broken()
     }
 
-    /// Sends what was written.
-    fn flush(&mut self) -> Result<(), WriteError>
+    /// Sends the replies that were written and flushes the device, or returns `Write` if the device fails, or has failed
+    /// before. `serve` does it before it reads; it is for an event loop that feeds a `Conversation`.
+    ///
+    ///     let writer = LineWriter::new(alloc, Output::new(Vec::new(alloc)), 64)?;
+    ///     let mut replies = Replies::new(writer, Ending::Lf);
+    ///     replies.part(AsciiStr::literal("ab"));
+    ///     replies.flush() // Ok(())
+    ///     replies.into_writer().into_sink().into_inner() // [97, 98]
+    pub fn flush(&mut self) -> Result<(), WriteError>
         ensures { SendsOut self.old result self.new }
     {
         self.writer.flush()
