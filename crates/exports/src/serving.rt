@@ -66,9 +66,8 @@ pub fn ask_fed(
         talk.fail(&mut words, &mut replies);
     }
     answer.put(talk.stop().unwrap_or(Stop::Closed));
-    let mut writer = replies.into_writer();
-    let _ = writer.flush();
-    let written = writer.into_sink().into_inner();
+    let _ = replies.flush();
+    let written = replies.into_writer().into_sink().into_inner();
     answer.put((words.count, talk.position(), written.as_slice()));
 }
 
