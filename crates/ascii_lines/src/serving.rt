@@ -425,7 +425,7 @@ impl<C: Channel, A: Allocator> LineChannel<C, A> {
 /// If the handler gives each line one reply, asks for the next line and closes at an error, and the input ends, then the
 /// device has taken the reply to each line of the input.
 ///
-/// Condition: the channel has not stopped at an error.
+/// Condition: no call of the device to write has failed.
 ///
 /// In the example, `Echo` is a handler that replies with the text that it is handed, and to an error with `no`.
 ///
