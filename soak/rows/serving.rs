@@ -2,7 +2,7 @@
 //! `crates/exports/src/serving.rt` says what it replies.
 
 use super::{Row, Rows};
-use crate::asked::Fault;
+use crate::asked::{Asked, Fault};
 use crate::calls::{self, Device, WHOLE};
 use crate::line_model::Stop;
 
@@ -38,6 +38,7 @@ pub static ROWS: &[Row] = &[
         ask(rows, b"ab\r\ncd\r\n", STRICT, 16, (WHOLE, WHOLE), &expected);
     }),
     ("each_start_of_a_session_is_answered", each_start),
+    ("each_cutting_of_an_input_is_answered_as_the_whole", each_cutting),
     ("a_greeting_comes_first", greetings),
 ];
 
@@ -102,18 +103,50 @@ struct Expected<'a> {
 fn ask(rows: &mut Rows, input: &[u8], endings: u8, size: usize, (reads, writes): (Device, Device), expected: &Expected<'_>) {
     rows.ask(|asked| {
         calls::ask_served(asked, endings, size, input, &reads, &writes);
-        match expected.why {
-            Closed => asked.want.put("closed"),
-            Writer => asked.want.put("write"),
-            Stops(stop) => asked.want.put(stop),
-        }
-        for number in [expected.count, expected.reads, expected.writes] {
-            let got = asked.got().get(asked.want.bytes.len() + 1..).and_then(|rest| rest.first_chunk());
-            let got = got.map_or(0, |number| u64::from_le_bytes(*number) as usize);
-            asked.want.put(number.unwrap_or(got));
-        }
-        asked.want.put(expected.written);
+        expect(asked, expected.why, &[expected.count, expected.reads, expected.writes], expected.written);
     });
+}
+
+/// Expects why a conversation stops, some numbers, each if it is known, and what is written.
+fn expect(asked: &mut Asked, why: Why, numbers: &[Option<usize>], written: &str) {
+    match why {
+        Closed => asked.want.put("closed"),
+        Writer => asked.want.put("write"),
+        Stops(stop) => asked.want.put(stop),
+    }
+    for number in numbers {
+        let got = asked.got().get(asked.want.bytes.len() + 1..).and_then(|rest| rest.first_chunk());
+        let got = got.map_or(0, |number| u64::from_le_bytes(*number) as usize);
+        asked.want.put(number.unwrap_or(got));
+    }
+    asked.want.put(written);
+}
+
+/// The lengths of the pieces of an input of `length` bytes, of which one ends after each byte whose bit is set.
+fn lengths(length: usize, cuts: u32) -> Vec<u8> {
+    let mut start = 0;
+    let ends = (0..length).filter(|i| cuts >> i & 1 == 1).map(|i| i + 1);
+    ends.map(|end| (end - std::mem::replace(&mut start, end)) as u8).collect()
+}
+
+/// A conversation that is fed with an input of up to ten bytes, in every cutting; and one whose source fails.
+fn each_cutting(rows: &mut Rows) {
+    for (input, endings, why, written) in SESSIONS.into_iter().filter(|(input, ..)| input.len() <= 10) {
+        for cuts in 0..1 << input.len() {
+            rows.ask(|asked| {
+                calls::ask_fed(asked, endings, 8, input, &lengths(input.len(), cuts), 0);
+                expect(asked, why, &[None, None], written);
+            });
+        }
+    }
+    // A line, a part, and the end of a line that was rejected are awaited.
+    let inputs: [(&[u8], &str); 3] = [(b"a\nb", "ok\r\nclosed\n"), (b"part\na", "closed\n"), (b"\xe9", "bad byte\n")];
+    for (input, written) in inputs {
+        rows.ask(|asked| {
+            calls::ask_fed(asked, ANY, 8, input, &[], 1);
+            expect(asked, Stops(Some(Fault("read", None))), &[None, None], written);
+        });
+    }
 }
 
 /// A greeting, the position of its first line break, an input, the position after the conversation, and what is

@@ -1,64 +1,79 @@
 -- A conversation as its handler sees it.
 use Rattle.std.proofs.Common.{◌≡◌, ◌∙◌, ℕ, List, [], ◌∷◌, ◌++◌, None, Option, Some, append-nil, ap, arith}
-use Rattle.std.proofs.Common.{inl, inr}
+use Rattle.std.proofs.Common.{inl, inr, length, length-append, true}
 use Rattle.std.proofs.Common.{refl, subst, sym}
+use Rattle.std.proofs.lemmas.Grind.{flat_map-append}
 use Rattle.std.specs.Io.KnownBytes.{Appends, Consumes, IsAtEnd}
 use Rattle.std.specs.List.{flat_map}
 use Rattle.std.specs.Prelude.{IfSome}
 use Rattle.ascii.proofs.LinesLemmas.{LinesEndedBy-cons, LinesEndedBy-nil}
-use Rattle.ascii.specs.Lines.{Line, LinesEndedBy}
+use Rattle.ascii.specs.Lines.{Line, LinesEndedBy, line_text}
 use Rattle.ascii.specs.declared.iter.spans.Ending.{Ending}
+use Rattle.ascii.specs.declared.iter.spans.Ending.TheVariants.{Absent}
 use Rattle.ascii.specs.declared.iter.spans.Endings.{Endings}
 use Rattle.ascii_devices.specs.Devices.{received_of}
-use Rattle.ascii_lines.specs.Exchanges.{IsReplier, RepliesToAll, Runs, inputs_of}
-use Rattle.ascii_lines.specs.Serve.{ChannelState, Conversation, IsUnendedLast, Reply, Serves}
-use Rattle.ascii_lines.specs.Serve.{Step, Talks}
-use Rattle.ascii_lines.specs.Serve.{bytes_of, rejected, replies_of, reply_bytes, reply_text, skipped, took}
+use Rattle.ascii_lines.specs.Exchanges.{IsReplier, Runs, inputs_of, said_in}
+use Rattle.ascii_lines.specs.Replies.{IsInputOf, Reply, Step, rejected, reply_bytes, reply_text, skipped}
+use Rattle.ascii_lines.specs.Replies.{took}
+use Rattle.ascii_lines.specs.Serve.{ChannelState, RepliesToAll, Serves, Talk, first_place}
+use Rattle.ascii_lines.specs.Turns.{Completes, IsTurnAt, Place, Stops, Turns, awaited_by, is_ended, place_of}
+use Rattle.ascii_lines.specs.declared.conversation.Awaited.{Awaited}
+use Rattle.ascii_lines.specs.declared.conversation.Awaited.TheVariants.{Input, LineEnd, Nothing}
+use Rattle.ascii_lines.specs.declared.conversation.Supply.{Supply}
+use Rattle.ascii_lines.specs.declared.conversation.Supply.TheVariants as supply
 use Rattle.ascii_lines.specs.declared.line_reader.LineError.{LineError}
-use Rattle.ascii_lines.specs.declared.serving.Awaited.{Awaited}
-use Rattle.ascii_lines.specs.declared.serving.Awaited.TheVariants.{Input, LineEnd}
 use Rattle.ascii_lines.specs.declared.serving.Next.{Next}
 use Rattle.ascii_lines.specs.declared.serving.Next.TheVariants as next
 use Rattle.ascii_lines.specs.declared.serving.Stop.{Stop}
 use Rattle.ascii_lines.specs.declared.serving.Stop.TheVariants as stop
+use Rattle.ascii_lines.specs.declared.wanted.Wanted.{Wanted}
+use Rattle.ascii_lines.specs.declared.wanted.Wanted.TheVariants as wanted
+use Rattle.ascii.proofs.LinesByLemmas.{MayFollow-ended}
+use Rattle.ascii_lines.proofs.LineReaderLemmas.{line_bytes}
 
 module _ {H : Type 0} (answers : H → Line → List Reply → Next → H → Type 0)
-    (refuses : H → LineError → List Reply → Next → H → Type 0) (endings : Endings) where
-  -- a conversation leads its handler from answer to answer
-  pub runs : (first last : Awaited) (old new : H) (steps : List Step)
-      → Talks answers refuses endings first old steps last new
-      → Runs answers refuses old steps new
-  runs first last old new [] talks = talks.1
-  runs (Input asked) last old new (took input replies ∷ steps) (after, mid, is, talks) =
-      (is.0, mid, is.3, runs after last mid new steps talks)
-  runs (Input asked) last old new (rejected error replies ∷ steps) (after, mid, is, talks) =
-      (is.0, mid, is.5, runs after last mid new steps talks)
-  runs (Input asked) last old new (skipped bytes ∷ steps) (after, mid, is, talks) = absurd is
-  runs (LineEnd asked) last old new (skipped bytes ∷ steps) (after, mid, is, talks) =
-      subst (λ h. Runs answers refuses h steps new) is.1 (runs after last mid new steps talks)
-  runs (LineEnd asked) last old new (took input replies ∷ steps) (after, mid, is, talks) =
-      absurd is
-  runs (LineEnd asked) last old new (rejected error replies ∷ steps) (after, mid, is, talks) =
-      absurd is
+    (refuses : H → LineError → List Reply → Next → H → Type 0) (endings : Endings) (size : ℕ)
+    (now : Supply) where
+  -- steps lead a handler from answer to answer
+  pub turns_run : (a b : Place H) (steps : List Step)
+      → Turns answers refuses endings size now a steps b
+      → Runs answers refuses a.handler steps b.handler
+  turns_run a b [] same = ap (λ (p : Place H). p.handler) same
+  turns_run a b (step ∷ steps) (mid, turn, turns) =
+      go a.awaited step turn (turns_run mid b steps turns)
+    where
+      go : (awaited : Awaited) (step : Step)
+          → IsTurnAt answers refuses endings size now awaited a step mid
+          → Runs answers refuses mid.handler steps b.handler
+          → Runs answers refuses a.handler (step ∷ steps) b.handler
+      go (Input asked) (took input said) t runs = (t.0, mid.handler, t.8, runs)
+      go (Input asked) (rejected error said) t runs = (t.0, mid.handler, t.5, runs)
+      go (Input asked) (skipped bytes) t runs =
+          subst (λ h. Runs answers refuses h steps b.handler) (ap (λ (p : Place H). p.handler) t.3) runs
+      go (LineEnd then) (skipped bytes) t runs =
+          subst (λ h. Runs answers refuses h steps b.handler) t.0 runs
+      go (LineEnd then) (took input said) t runs = absurd t
+      go (LineEnd then) (rejected error said) t runs = absurd t
+      go (Nothing why) step t runs = absurd t
+
+  -- nothing follows the end of a conversation
+  pub over_ends : (a b : Place H) (steps : List Step) (why : Stop) → a.awaited ≡ Nothing why
+      → Turns answers refuses endings size now a steps b → (steps ≡ []) × (b ≡ a)
+  over_ends a b [] why is same = (refl, same)
+  over_ends a b (step ∷ steps) why is (mid, turn, turns) =
+      absurd (subst (λ w. IsTurnAt answers refuses endings size now w a step mid) is turn)
 
 module _ {H : Type 0} (answers : H → Line → List Reply → Next → H → Type 0)
     (refuses : H → LineError → List Reply → Next → H → Type 0) where
   -- so does the conversation of a server
-  pub talk_runs : {old new : ChannelState} {handler last : H} {why : Stop}
-      (talk : Conversation answers refuses old handler why new last)
-      → Runs answers refuses handler talk.steps talk.state
-  talk_runs {old} {new} {handler} {last} {why} talk = runs answers refuses old.cursor.endings
-      (Input next.Line) talk.awaited handler talk.state talk.steps talk.talks
+  pub talk_runs : {old new : ChannelState} {handler last : H}
+      (talk : Talk answers refuses old handler new last)
+      → Runs answers refuses handler talk.steps last
+  talk_runs {old} {new} {handler} {last} talk =
+      turns_run answers refuses old.talk.endings old.talk.size talk.now
+      (first_place old handler (received_of talk.events)) (place_of new.talk last) talk.steps talk.turns
 
 -- ---- handlers that reply to lines
-
--- the steps take lines, and are the replies to them
-record TakesLines (reply : Line → Reply) (endings : Endings) (steps : List Step) (last : Awaited)
-    : Type 0 where
-  pub are : LinesEndedBy endings (bytes_of steps) (inputs_of steps)
-  pub says : (ending : Ending) → replies_of ending steps
-      ≡ flat_map (λ line. reply_text ending (reply line)) (inputs_of steps)
-  pub awaits : last ≡ Input next.Line
 
 -- the bytes that a source gave up to its end are all that it had
 all_given : (old left : Option (List ℕ)) (given : List ℕ) (P : List ℕ → Type 0)
@@ -68,68 +83,119 @@ all_given (Some xs) None given P gave ends holds = absurd gave
 all_given (Some xs) (Some ys) given P gave ends holds =
     subst P (sym (gave ∙ (ap (λ zs. given ++ zs) ends ∙ append-nil given))) holds
 
+stop_same : (a b : Stop) → Nothing a ≡ Nothing b → a ≡ b
+stop_same a b is = cc
+
+-- there are no lines in no bytes
+no_lines : (endings : Endings) (lines : List Line) → LinesEndedBy endings [] lines → lines ≡ []
+no_lines endings [] are = refl
+no_lines endings (line ∷ lines) are = absurd (omega (
+  arith,
+  ap length are.joined,
+  length-append (line_text line) (flat_map line_text lines),
+  line_bytes line.body line.ending
+      (MayFollow-ended endings line.ending line.body (are.endings 0 line (omega arith))),
+))
+
+module _ {H : Type 0} (answers : H → Line → List Reply → Next → H → Type 0)
+    (refuses : H → LineError → List Reply → Next → H → Type 0) (reply : Line → Reply)
+    (replier : IsReplier answers refuses reply) (endings : Endings) (size : ℕ) (now : Supply) where
+  -- steps up to the end of the input take its lines, and give the replies to them
+  record TakesLines (text : List ℕ) (steps : List Step) : Type 0 where
+    pub are : LinesEndedBy endings text (inputs_of steps)
+    pub says : (ending : Ending) → reply_bytes ending (said_in steps)
+        ≡ flat_map (λ line. reply_text ending (reply line)) (inputs_of steps)
+
+  takes_lines : (a b : Place H) (steps : List Step) → a.awaited ≡ Input next.Line
+      → b.awaited ≡ Nothing stop.EndOfInput → Turns answers refuses endings size now a steps b
+      → TakesLines a.text steps
+  takes_lines a b [] line ends same = absurd (let e : Nothing stop.EndOfInput ≡ Input next.Line =
+      sym ends ∙ (ap (λ (p : Place H). p.awaited) same ∙ line) in cc)
+  takes_lines a b (step ∷ steps) line ends (mid, turn, turns) = go step
+      (λ is. takes_lines mid b steps is ends turns)
+      (subst (λ w. IsTurnAt answers refuses endings size now w a step mid) line turn)
+    where
+      over : (why : Stop) → mid.awaited ≡ Nothing why → (why ≡ stop.EndOfInput) × (steps ≡ [])
+      over why is =
+          let last = over_ends answers refuses endings size now mid b steps why is turns in (
+            stop_same why stop.EndOfInput
+                (sym is ∙ (sym (ap (λ (p : Place H). p.awaited) last.1) ∙ ends)),
+            last.0,
+          )
+
+      go : (step : Step) → (mid.awaited ≡ Input next.Line → TakesLines mid.text steps)
+          → IsTurnAt answers refuses endings size now (Input next.Line) a step mid
+          → TakesLines a.text (step ∷ steps)
+      go (took input said) then t =
+          let by = replier.0 a.handler input said t.0 mid.handler t.8 in
+          let others = then (t.3 ∙ ap awaited_by by.1) in
+          let is : IsInputOf (wanted.Line endings) t.2 input =
+          subst (λ w. IsInputOf w t.2 input) t.5 t.6 in
+          let completes : Completes now (wanted.Line endings) t.2 mid.text =
+          subst (λ w. Completes now w t.2 mid.text) t.5 t.7 in
+          record {
+            are = subst (λ text. LinesEndedBy endings text (input ∷ inputs_of steps))
+                (ap (λ xs. xs ++ mid.text) is.1 ∙ sym t.9)
+                (LinesEndedBy-cons endings input mid.text (inputs_of steps)
+                (is.0.bodies 0 input (omega arith)) (is.0.endings 0 input (omega arith))
+                (λ none. elim completes [
+                  | inl whole ↦ absurd (is.2 whole none)
+                  | inr last ↦ no_lines endings (inputs_of steps)
+                      (subst (λ text. LinesEndedBy endings text (inputs_of steps)) last.1 others.are)
+                ]) others.are);
+            says = λ ending. flat_map-append (reply_text ending) said (said_in steps)
+                ∙ (ap (λ rs. reply_bytes ending rs ++ reply_bytes ending (said_in steps)) by.0
+                ∙ (ap (λ xs. xs ++ reply_bytes ending (said_in steps))
+                (append-nil (reply_text ending (reply input)))
+                ∙ ap (λ xs. reply_text ending (reply input) ++ xs) (others.says ending)));
+          }
+      go (rejected error said) then t =
+          let by = replier.1 a.handler error said t.0 mid.handler t.5 in
+          elim t.2 [
+            | inl on ↦ absurd (on.3 by)
+            | inr stops ↦ absurd (let e : stop.Reader error ≡ stop.EndOfInput =
+                (over (stop.Reader error) stops.0).0 in cc)
+          ]
+      go (skipped bytes) then t = ended t.0 t.2 (over t.0 (ap (λ (p : Place H). p.awaited) t.3))
+        where
+          ended : (why : Stop) → Stops now next.Line a.text why
+              → (why ≡ stop.EndOfInput) × (steps ≡ []) → TakesLines a.text (skipped bytes ∷ steps)
+          ended stop.EndOfInput stops last =
+              subst (λ ss. TakesLines a.text (skipped bytes ∷ ss)) (sym last.1)
+              (subst (λ text. TakesLines text (skipped bytes ∷ [])) (sym stops.2)
+              (record { are = LinesEndedBy-nil endings; says = λ _. refl }))
+          ended stop.Writer stops last =
+              absurd (let e : stop.Writer ≡ stop.EndOfInput = last.0 in cc)
+          ended stop.Closed stops last = absurd stops
+          ended (stop.Reader error) stops last = absurd stops
+
 module _ {H : Type 0} (answers : H → Line → List Reply → Next → H → Type 0)
     (refuses : H → LineError → List Reply → Next → H → Type 0) (reply : Line → Reply)
     (replier : IsReplier answers refuses reply) where
-  takes_lines : (endings : Endings) (old new : H) (last : Awaited) (steps : List Step)
-      (talks : Talks answers refuses endings (Input next.Line) old steps last new)
-      → IsUnendedLast answers refuses endings (Input next.Line) old steps last new talks
-      → TakesLines reply endings steps last
-  takes_lines endings old new last [] talks unended = record {
-    are = LinesEndedBy-nil endings;
-    says = λ _. refl;
-    awaits = talks.0;
-  }
-  takes_lines endings old new last (took input replies ∷ steps)
-      (after, mid, (asked, is, is_asked, told), talks) unended =
-      let by = replier.0 old input replies asked mid told in
-      let moved = subst
-      (λ a. (t : Talks answers refuses endings a mid steps last new)
-      × IsUnendedLast answers refuses endings a mid steps last new t)
-      (is ∙ ap Input by.1) (talks, unended.1) in
-      let others = takes_lines endings mid new last steps moved.0 moved.1 in
-      record {
-        are = LinesEndedBy-cons endings input (bytes_of steps) (inputs_of steps)
-            (is_asked.bodies 0 input (omega arith)) (is_asked.endings 0 input (omega arith))
-            (λ none. ap inputs_of (unended.0 none)) others.are;
-        says = λ ending.
-            ap (λ rs. reply_bytes ending rs ++ replies_of ending steps) by.0
-            ∙ (ap (λ xs. xs ++ replies_of ending steps)
-            (append-nil (reply_text ending (reply input)))
-            ∙ ap (λ xs. reply_text ending (reply input) ++ xs) (others.says ending));
-        awaits = others.awaits;
-      }
-  takes_lines endings old new last (rejected error replies ∷ steps) (after, mid, is, talks)
-      unended = absurd (is.4 (replier.1 old error replies is.0 mid is.5))
-  takes_lines endings old new last (skipped bytes ∷ steps) (after, mid, is, talks) unended =
-      absurd is
-
   served : (old new : ChannelState) (handler last : H)
       → Serves answers refuses old handler stop.EndOfInput new last → RepliesToAll reply old new
   served old new handler last serves =
       let talk = serves.talk in
-      let stops = talk.stops in
-      let all = takes_lines old.cursor.endings handler talk.state talk.awaited talk.steps talk.talks
-      talk.unended in
-      let nothing : talk.over ≡ [] = elim stops.3 [
-        | inl line ↦ line.1
-        | inr end ↦ absurd (let e : Input next.Line ≡ LineEnd end.0 = sym all.awaits ∙ end.1 in cc)
+      let used = serves.used refl in
+      let over : new.talk.awaited ≡ Nothing stop.EndOfInput = elim serves.stops [
+        | inl writer ↦ absurd (let e : stop.EndOfInput ≡ stop.Writer = writer in cc)
+        | inr over ↦ over
       ] in
-      let read : old.cursor.held ++ received_of talk.events ≡ bytes_of talk.steps =
-      talk.received ∙ (ap (λ xs. bytes_of talk.steps ++ (xs ++ new.cursor.held)) nothing
-      ∙ (ap (λ xs. bytes_of talk.steps ++ xs) stops.0.none ∙ append-nil (bytes_of talk.steps))) in
+      let all = takes_lines answers refuses reply replier old.talk.endings old.talk.size talk.now
+      (first_place old handler (received_of talk.events)) (place_of new.talk last) talk.steps refl over
+      talk.turns in
+      let seen : new.talk.is_at_end ≡ true = sym talk.ended ∙ ap is_ended used.0 in
+      let reads : new.output.aside.failures ≡ old.output.aside.failures = elim talk.reads [
+        | inl same ↦ same
+        | inr failed ↦ absurd (let e : supply.Ended ≡ supply.Failed = sym used.0 ∙ failed.0 in cc)
+      ] in
       record {
         lines = inputs_of talk.steps;
         input = all_given old.output.aside.bytes talk.gave.rest (received_of talk.events)
-            (λ rest. LinesEndedBy old.cursor.endings (old.cursor.held ++ rest)
-            (inputs_of talk.steps)) talk.gave.gave
-            (subst IsAtEnd (talk.gave.left talk.reads) stops.0.left)
-            (subst (λ text. LinesEndedBy old.cursor.endings text (inputs_of talk.steps))
-            (sym read) all.are);
+            (λ rest. LinesEndedBy old.talk.endings (old.talk.held ++ rest) (inputs_of talk.steps))
+            talk.gave.gave (subst IsAtEnd (talk.gave.left reads) (serves.end seen)) all.are;
         output = subst (Appends old.output.taken new.output.taken)
-            (serves.wrote.0 ∙ ap (λ xs. old.output.buffer.bytes ++ xs)
-            (ap (λ rs. replies_of old.ending talk.steps ++ reply_bytes old.ending rs) stops.1
-            ∙ (append-nil (replies_of old.ending talk.steps) ∙ all.says old.ending))) talk.took;
+            (serves.wrote.0 ∙ ap (λ xs. old.output.buffer.bytes ++ xs) (all.says old.ending)) talk.took;
       }
 
   -- after a conversation that ended with the input, all lines were replied to
@@ -141,16 +207,16 @@ module _ {H : Type 0} (answers : H → Line → List Reply → Next → H → Ty
 
 -- the same of a channel over memory
 pub replied_in_memory : (reply : Line → Reply) (old new : ChannelState) (text written : List ℕ)
-    → RepliesToAll reply old new → old.cursor.held ≡ [] → old.output.buffer.bytes ≡ []
+    → RepliesToAll reply old new → old.talk.held ≡ [] → old.output.buffer.bytes ≡ []
     → old.output.aside.bytes ≡ Some text → old.output.taken ≡ Some []
     → new.output.taken ≡ Some written
-    → (lines : List Line) × LinesEndedBy old.cursor.endings text lines
+    → (lines : List Line) × LinesEndedBy old.talk.endings text lines
     × (written ≡ flat_map (λ line. reply_text old.ending (reply line)) lines)
 replied_in_memory reply old new text written all none empty rest before after = (
   all.lines,
-  subst (λ held. LinesEndedBy old.cursor.endings (held ++ text) all.lines) none
-      (subst (λ bytes. IfSome bytes (λ rest. LinesEndedBy old.cursor.endings
-      (old.cursor.held ++ rest) all.lines)) rest all.input),
+  subst (λ held. LinesEndedBy old.talk.endings (held ++ text) all.lines) none
+      (subst (λ bytes. IfSome bytes (λ rest. LinesEndedBy old.talk.endings
+      (old.talk.held ++ rest) all.lines)) rest all.input),
   subst
       (λ bytes. written ≡ bytes
       ++ flat_map (λ line. reply_text old.ending (reply line)) all.lines) empty

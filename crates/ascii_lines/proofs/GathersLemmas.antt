@@ -54,11 +54,11 @@ no_reads_reach true = (refl, refl)
 no_reads_reach false = tt
 
 -- what a reader remembers of a read tells whether it returned bytes
-is_none : (read : List ℕ) → (length read == 0) ≡ true → read ≡ []
+pub is_none : (read : List ℕ) → (length read == 0) ≡ true → read ≡ []
 is_none [] zero = refl
 is_none (b ∷ read) zero = absurd (omega (arith, eqb-true (length (b ∷ read)) 0 zero))
 
-is_some : (read : List ℕ) → (length read == 0) ≡ false → read ≢ []
+pub is_some : (read : List ℕ) → (length read == 0) ≡ false → read ≢ []
 is_some read other none =
     false≢true (sym other ∙ ap (λ (xs : List ℕ). length xs == 0) none)
 

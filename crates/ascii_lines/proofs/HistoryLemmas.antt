@@ -60,25 +60,13 @@ received_of-writes (Flushed ∷ events) writes = received_of-writes events write
 received_of-writes (Read ∷ events) writes = absurd writes
 received_of-writes (Received b ∷ events) writes = absurd writes
 
-received_of-bytes : (bytes : List ℕ) → received_of (map Received bytes) ≡ bytes
+pub received_of-bytes : (bytes : List ℕ) → received_of (map Received bytes) ≡ bytes
 received_of-bytes [] = refl
 received_of-bytes (b ∷ bytes) = ap (λ zs. b ∷ zs) (received_of-bytes bytes)
 
-sent_of-bytes : (bytes : List ℕ) → sent_of (map Received bytes) ≡ []
+pub sent_of-bytes : (bytes : List ℕ) → sent_of (map Received bytes) ≡ []
 sent_of-bytes [] = refl
 sent_of-bytes (b ∷ bytes) = sent_of-bytes bytes
-
-pub received_of-reads : (reads : List (List ℕ)) → received_of (flat_map read_of reads) ≡ all_of reads
-received_of-reads [] = refl
-received_of-reads (read ∷ reads) = received_of-append (read_of read) (flat_map read_of reads)
-    ∙ (ap (λ xs. xs ++ received_of (flat_map read_of reads)) (received_of-bytes read)
-    ∙ ap (λ xs. read ++ xs) (received_of-reads reads))
-
-pub sent_of-reads : (reads : List (List ℕ)) → sent_of (flat_map read_of reads) ≡ []
-sent_of-reads [] = refl
-sent_of-reads (read ∷ reads) = sent_of-append (read_of read) (flat_map read_of reads)
-    ∙ (ap (λ xs. xs ++ sent_of (flat_map read_of reads)) (sent_of-bytes read)
-    ∙ sent_of-reads reads)
 
 -- ---- at each read
 
@@ -111,53 +99,10 @@ AtEachRead-writes P past (Flushed ∷ events) writes =
 AtEachRead-writes P past (Read ∷ events) writes = absurd writes
 AtEachRead-writes P past (Received b ∷ events) writes = absurd writes
 
-AtEachRead-received : (P : List Event → Type 0) (past : List Event) (bytes : List ℕ)
+pub AtEachRead-received : (P : List Event → Type 0) (past : List Event) (bytes : List ℕ)
     → AtEachRead P past (map Received bytes)
 AtEachRead-received P past [] = tt
 AtEachRead-received P past (b ∷ bytes) = AtEachRead-received P (past ++ Received b ∷ []) bytes
-
--- what is true while a server reads: the bytes that came are `taken` and then those held, the bytes
--- sent are `out`, and all of them are flushed
-pub record IsSettled (first taken out : List ℕ) (past : List Event) (held : List ℕ) : Type 0 where
-  pub received : first ++ received_of past ≡ taken ++ held
-  pub sent : sent_of past ≡ out
-  pub flushed : IsFlushed past
-
-module _ (first taken out : List ℕ) where
-  one_read : (past : List Event) (held read : List ℕ) → IsSettled first taken out past held
-      → IsSettled first taken out (past ++ read_of read) (held ++ read)
-  one_read past held read now = record {
-    received = ap (λ xs. first ++ xs) (received_of-append past (read_of read)
-        ∙ ap (λ xs. received_of past ++ xs) (received_of-bytes read))
-        ∙ (sym (append_assoc first (received_of past) read)
-        ∙ (ap (λ xs. xs ++ read) now.received ∙ append_assoc taken held read));
-    sent = sent_of-append past (read_of read)
-        ∙ (ap (λ xs. sent_of past ++ xs) (sent_of-bytes read)
-        ∙ (append-nil (sent_of past) ∙ now.sent));
-    flushed = (
-      now.flushed.0,
-      now.flushed.1 ++ read_of read,
-      ap (λ xs. xs ++ read_of read) now.flushed.2
-          ∙ append_assoc now.flushed.0 (Flushed ∷ now.flushed.1) (read_of read),
-      sent_of-append now.flushed.1 (read_of read)
-          ∙ (ap (λ xs. sent_of now.flushed.1 ++ xs) (sent_of-bytes read)
-          ∙ (append-nil (sent_of now.flushed.1) ∙ now.flushed.3)),
-    );
-  }
-
-  -- at each of the reads
-  pub AtEachRead-reads : (P : List Event → Type 0) (Must : List ℕ → Type 0)
-      → ((past : List Event) (held : List ℕ) → IsSettled first taken out past held → Must held
-      → P past)
-      → (past : List Event) (held : List ℕ) (reads : List (List ℕ))
-      → IsSettled first taken out past held → Asks Must held reads
-      → AtEachRead P past (flat_map read_of reads)
-  AtEachRead-reads P Must then past held [] now asks = tt
-  AtEachRead-reads P Must then past held (read ∷ reads) now asks =
-      AtEachRead-append P past (read_of read) (flat_map read_of reads)
-      (then past held now asks.0, AtEachRead-received P (past ++ Read ∷ []) read)
-      (AtEachRead-reads P Must then (past ++ read_of read) (held ++ read) reads
-      (one_read past held read now) asks.2)
 
 -- events after others, which end in a flush
 pub IsFlushed-after : (past events : List Event) → IsFlushed events → IsFlushed (past ++ events)
@@ -183,37 +128,3 @@ EndsInEmptyRead-writes events more writes (before, after, is, then) = (
   ap (λ xs. xs ++ more) is ∙ append_assoc before (Read ∷ after) more,
   AreWrites-append after more then writes,
 )
-
--- reads of which the last gave no bytes
-last_is_empty : (past before after : List Event) (first : List (List ℕ)) → AreWrites after
-    → EndsInEmptyRead
-    (past ++ (before ++ (flat_map read_of (first ++ [] ∷ []) ++ after)))
-last_is_empty past before after first then =
-    let reads = flat_map read_of first in (
-      past ++ (before ++ reads),
-      after,
-      ap (λ xs. past ++ (before ++ (xs ++ after))) (flat_map-append read_of first ([] ∷ []))
-          ∙ (ap (λ xs. past ++ (before ++ xs)) (append_assoc reads (Read ∷ []) after)
-          ∙ (ap (λ xs. past ++ xs) (sym (append_assoc before reads (Read ∷ after)))
-          ∙ sym (append_assoc past (before ++ reads) (Read ∷ after)))),
-      then,
-    )
-
--- if a read has returned no bytes, the last one has, unless one had before
-pub ends_in_read : (was mid is : Bool) (past before after : List Event)
-    (reads : List (List ℕ)) → AreWrites before → AreWrites after → ReachesEnd mid reads is
-    → (mid ≡ true → (was ≡ true) ⊎ EndsInEmptyRead past) → is ≡ true
-    → (was ≡ true) ⊎ EndsInEmptyRead (past ++ (before ++ (flat_map read_of reads ++ after)))
-ends_in_read was true is past before after reads first then (none, last) so_far seen =
-    elim (so_far refl) [
-      | inl known ↦ inl known
-      | inr ends ↦ inr (EndsInEmptyRead-writes past
-          (before ++ (flat_map read_of reads ++ after))
-          (AreWrites-append before (flat_map read_of reads ++ after) first
-          (subst (λ rs. AreWrites (flat_map read_of rs ++ after)) (sym none) then)) ends)
-    ]
-ends_in_read was false true past before after reads first then (some, is) so_far seen = inr
-    (subst (λ rs. EndsInEmptyRead (past ++ (before ++ (flat_map read_of rs ++ after))))
-    (sym is) (last_is_empty past before after some then))
-ends_in_read was false false past before after reads first then reaches so_far seen =
-    absurd (false≢true seen)

@@ -3,14 +3,11 @@ pub mod GathersLemmas
 pub mod HistoryLemmas
 pub mod LineBufferLemmas
 pub mod LineReaderLemmas
-pub mod MovesLemmas
 pub mod RejectedLemmas
 pub mod ReplyLemmas
-pub mod ServeLemmas
-pub mod StepLemmas
-pub mod InputLemmas
-pub mod FinishLemmas
 pub mod TakesLemmas
+pub mod TurnsLemmas
 pub mod WriteBufferLemmas
 pub mod WantedLemmas
 pub mod SkippingLemmas
+pub mod ServeLemmas

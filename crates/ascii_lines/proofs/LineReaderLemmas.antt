@@ -206,7 +206,7 @@ err_is_some : (result : Result (Option ReadLine) LineError) (error : LineError)
     (line : ReadLine) → result ≡ Err error → result ≡ Ok (Some line) → ⊥
 err_is_some result error line err some = cc
 
-line_bytes : (body : List ℕ) (ending : Ending) → MayFollow ending body
+pub line_bytes : (body : List ℕ) (ending : Ending) → MayFollow ending body
     → 0 < length (body ++ ending_text ending)
 line_bytes body Lf may = omega (arith, length-append body (10 ∷ []))
 line_bytes body CrLf may = omega (arith, length-append body (13 ∷ 10 ∷ []))

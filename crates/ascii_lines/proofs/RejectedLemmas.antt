@@ -4,7 +4,9 @@ use Rattle.std.proofs.Common.{inl, inr, length, length-append, refl, sym, true, 
 use Rattle.std.proofs.Math.ListN.{get_or-append}
 use Rattle.std.proofs.lemmas.Bool.{false≢true}
 use Rattle.ascii.specs.declared.iter.spans.Endings.TheVariants.{CrLfStrict}
-use Rattle.ascii_lines.specs.Serve.{Explains, Reply, Step, at_end_before, bytes_of, rejected}
+use Rattle.ascii_lines.specs.Replies.{at_end_before}
+use Rattle.ascii_lines.specs.Turns.{Faults, is_ended}
+use Rattle.ascii_lines.specs.declared.conversation.Supply.{Supply}
 use Rattle.ascii_lines.specs.Wanted.{IsLoneBreak}
 use Rattle.ascii_lines.specs.declared.line_reader.LineError.TheVariants.{LoneBreak}
 use Rattle.ascii_lines.specs.declared.wanted.Wanted.TheVariants.{Line}
@@ -45,12 +47,9 @@ module _ (size i j n : ℕ) (all text : List ℕ) (is_at_end : Bool) (same : i �
         )
         nothing (b ∷ others) parts long last = false≢true last
 
--- a strict server that was sent `ab` CR LF has not rejected it for the CR
-pub ab_cr_lf_is_not_lone : (size : ℕ) (replies : List Reply) (steps : List Step)
-    (tail more : List ℕ) (is_at_end : Bool)
-    → bytes_of steps ++ tail ≡ 97 ∷ 98 ∷ 13 ∷ 10 ∷ more
-    → Explains CrLfStrict size 0 (rejected (LoneBreak 2) replies ∷ steps) tail is_at_end → ⊥
-ab_cr_lf_is_not_lone size replies steps tail more is_at_end sent
-    ((text, others, parts, (strict, (i, n, is, lone))), first) =
-    cr_lf_not_lone size 2 i n (97 ∷ 98 ∷ 13 ∷ 10 ∷ more) text is_at_end (omega (arith, is))
-    (omega arith) refl refl others (sym sent ∙ parts) lone
+-- a strict conversation that was sent `ab` CR LF does not reject it for the CR
+pub ab_cr_lf_is_not_lone : (now : Supply) (size : ℕ) (more : List ℕ)
+    → Faults now (Line CrLfStrict) 0 size (97 ∷ 98 ∷ 13 ∷ 10 ∷ more) (LoneBreak 2) → ⊥
+ab_cr_lf_is_not_lone now size more (text, others, parts, (strict, (i, n, is, lone)), read) =
+    cr_lf_not_lone size 2 i n (97 ∷ 98 ∷ 13 ∷ 10 ∷ more) text (is_ended now) (omega (arith, is))
+    (omega arith) refl refl others parts lone

@@ -7,13 +7,15 @@ use Rattle.std.proofs.lemmas.Bool.{false≢true}
 use Rattle.std.proofs.lemmas.Grind.{flat_map-append}
 use Rattle.std.proofs.lemmas.List.Folds.{list_all_at}
 use Rattle.ascii.specs.Lines.{ending_text}
+use Rattle.std.proofs.KnownBytes.{Appends-nil}
+use Rattle.ascii_devices.proofs.HistoryLemmas.{Grows-nil}
 use Rattle.ascii_devices.specs.Buffered.{OutputState}
 use Rattle.ascii_lines.specs.Failures.{one_more}
 use Rattle.ascii.specs.Endings.{is_line_break}
 use Rattle.ascii_lines.specs.LineWriter.{FailsToWrite, WritesBytes}
-use Rattle.ascii_lines.specs.Serve.{Reply, IsLineOutcome, Says, SaysBytes, Saying}
-use Rattle.ascii_lines.specs.Serve.{is_unbroken, line_given, line_reply, part_reply, reply_bytes}
-use Rattle.ascii_lines.specs.Serve.{reply_text}
+use Rattle.ascii_lines.specs.Replies.{Reply, IsLineOutcome, Says, SaysBytes, Saying}
+use Rattle.ascii_lines.specs.Replies.{is_unbroken, line_given, line_reply, part_reply, reply_bytes}
+use Rattle.ascii_lines.specs.Replies.{reply_text}
 use Rattle.ascii_lines.proofs.WriteBufferLemmas.{Passes-prefix, Passes-trans}
 use Rattle.ascii_lines.proofs.WriteBufferLemmas.{PassesPrefix-more}
 
@@ -49,6 +51,23 @@ FailsToWrite-more {a} {b} xs ys fails = record {
   size = fails.size;
 }
 
+-- nothing was written
+SaysBytes-nil : (broken : Bool) (a : OutputState) → a.buffer.is_broken ≡ broken
+    → SaysBytes broken a [] a
+SaysBytes-nil false a whole = inl (record {
+  passed = record {
+    sent = [];
+    took = Appends-nil a.taken;
+    told = record { events = []; grows = Grows-nil a.history; writes = tt; noted = refl };
+    all = sym (append-nil a.buffer.bytes);
+  };
+  failures = refl;
+  aside = refl;
+  stage = whole;
+  size = refl;
+})
+SaysBytes-nil true a is = refl
+
 -- bytes, and then more
 SaysBytes-trans : (p q : Bool) (a b c : OutputState) (xs ys : List ℕ)
     → a.buffer.is_broken ≡ p → b.buffer.is_broken ≡ q → SaysBytes p a xs b → SaysBytes q b ys c
@@ -70,6 +89,10 @@ SaysBytes-trans true true a b c xs ys was is first then = then ∙ first
 -- ---- replies after replies
 
 module _ {K : Type 0} where
+  -- no reply was given
+  pub Says-nil : (a : Saying K) → Says a [] a
+  Says-nil a = (SaysBytes-nil a.state.buffer.is_broken a.state refl, refl)
+
   -- replies, and then more
   pub Says-trans : (a b c : Saying K) (first after : List Reply) → Says a first b
       → Says b after c → Says a (first ++ after) c

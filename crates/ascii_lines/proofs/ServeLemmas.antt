@@ -1,633 +1,786 @@
--- One step of a server after another.
-use Rattle.std.proofs.Common.{◌≡◌, ◌≢◌, ◌⊎◌, ℕ, ◌+◌, ◌-◌, ◌*◌, ◌^◌, ◌<◌, List, [], ◌∷◌, ◌++◌, Bool, true, false}
-use Rattle.std.proofs.Common.{append_assoc, append-nil, ap, arith, inl, inr, length, refl, subst}
-use Rattle.std.proofs.Common.{add-zero, length-append, sym, ◌∙◌}
-use Rattle.std.specs.List.{flat_map}
-use Rattle.std.specs.Io.KnownBytes.{Appends}
+-- A conversation over a device: steps, writes and reads, one after another.
+use Rattle.std.proofs.Common.{◌≡◌, ◌≢◌, ◌⊎◌, ◌∙◌, ℕ, ◌+◌, ◌-◌, ◌*◌, ◌^◌, ◌<◌, ◌≤◌, List, [], ◌∷◌, ◌++◌}
+use Rattle.std.proofs.Common.{Bool, Err, None, Ok, Option, Result, Some, ap, append_assoc, append-nil}
+use Rattle.std.proofs.Common.{arith, false, inl, inr, length, length-append, map, refl, subst, sym}
+use Rattle.std.proofs.Common.{true, ◌==◌}
 use Rattle.std.proofs.KnownBytes.{Appends-nil, Appends-trans}
 use Rattle.std.proofs.lemmas.Bool.{false≢true}
 use Rattle.std.proofs.lemmas.Grind.{flat_map-append}
-use Rattle.ascii.specs.Lines.{Line, ending_text, line_text}
+use Rattle.std.specs.Io.KnownBytes.{Appends, IsAtEnd}
+use Rattle.std.specs.Prelude.{MatchResult}
+use Rattle.ascii.specs.Lines.{Line}
 use Rattle.ascii.specs.declared.iter.spans.Ending.{Ending}
 use Rattle.ascii.specs.declared.iter.spans.Endings.{Endings}
-use Rattle.ascii_devices.proofs.HistoryLemmas.{Gives-nil, Gives-trans, Grows-nil, Grows-trans}
-use Rattle.ascii_devices.proofs.HistoryLemmas.{received_of-append, sent_of-append}
-use Rattle.ascii_devices.proofs.ListLemmas.{append_two}
-use Rattle.ascii_devices.specs.Devices.{Grows, read_of, received_of, sent_of}
-use Rattle.ascii_devices.specs.States.{Gives, of_state}
+use Rattle.ascii_devices.proofs.HistoryLemmas.{Gives-failed, Gives-nil, Gives-read, Grows-nil}
+use Rattle.ascii_devices.proofs.HistoryLemmas.{Grows-trans, Tells, received_of-append, sent_of-all}
+use Rattle.ascii_devices.proofs.HistoryLemmas.{sent_of-append, tells-by, tells-more}
+use Rattle.ascii_devices.specs.Buffered.{BufferState, OutputState}
+use Rattle.ascii_devices.specs.Devices.{Aside, Grows, read_of, received_of, sent_of, write_of}
+use Rattle.ascii_devices.specs.States.{Gives, SourceState, of_state}
 use Rattle.ascii_devices.specs.declared.log.Event.{Event}
-use Rattle.std.specs.Prelude.{⊤}
-use Rattle.ascii_lines.specs.Serve.{AtEachRead, ChannelState, CountsBy, CountsReads, Explains}
-use Rattle.ascii_lines.specs.Serve.{Halts, IsAnswered, IsAsked, IsRequest, IsStep, IsUp}
-use Rattle.ascii_lines.specs.Serve.{IsUnendedLast, Lacks, MayStep, TakesUnended}
-use Rattle.ascii_lines.specs.declared.line_reader.Stage.TheVariants.{Ended}
-use Rattle.ascii_lines.specs.Serve.{Moves, ReadsWell, Reply, SentBy, Stopped, Talks, Step, Stepped}
-use Rattle.ascii_lines.specs.Serve.{at_end_before, bytes_of, read_side, replies_of, reply_bytes, step_bytes}
-use Rattle.ascii_lines.specs.Serve.{step_replies, rejected, skipped, took}
-use Rattle.ascii_lines.specs.Wanted.{KnowsEnd, ReachesEnd, Rejects, all_of}
-use Rattle.ascii_lines.specs.declared.line_reader.LineError.TheVariants as error
-use Rattle.ascii_lines.specs.declared.wanted.Wanted.{Wanted}
-use Rattle.ascii_lines.specs.declared.wanted.Wanted.TheVariants as wanted
+use Rattle.ascii_devices.specs.declared.log.Event.TheVariants.{Flushed, Read, Received}
+use Rattle.ascii_lines.specs.Exchanges.{said_in}
+use Rattle.ascii_lines.specs.Failures.{one_more}
+use Rattle.ascii_lines.specs.History.{AreWrites, EndsInEmptyRead}
+use Rattle.ascii_lines.specs.LineBuffer.{FailsOnce, ReadsOnce, WindowState}
+use Rattle.ascii_lines.specs.LineWriter.{FailsToWrite, Flushes, FlushesFrom, Writing}
+use Rattle.ascii_lines.specs.Replies.{Reply, Says, SaysBytes, Saying, Step, reply_bytes, reply_text}
+use Rattle.ascii_lines.specs.Serve.{AtEachRead, ChannelState, CountsBy, IsAnswered, IsFlushed, IsRead}
+use Rattle.ascii_lines.specs.Serve.{IsUnread, IsUp, ReadsOn, SendsOut, SentBy, Serves, SoFar, Talk, Wrote}
+use Rattle.ascii_lines.specs.Serve.{first_place, read_side}
+use Rattle.ascii_lines.specs.Turns.{Converses, IsOver, Lacks, Place, TalkState, Turns, is_ended}
+use Rattle.ascii_lines.specs.Turns.{place_at, place_of, place_with, stop_of, supply_at, with_more}
+use Rattle.ascii_lines.specs.declared.conversation.Awaited.{Awaited}
+use Rattle.ascii_lines.specs.declared.conversation.Awaited.TheVariants.{Input, LineEnd, Nothing}
+use Rattle.ascii_lines.specs.declared.conversation.Supply.{Supply}
+use Rattle.ascii_lines.specs.declared.conversation.Supply.TheVariants as supply
 use Rattle.ascii_lines.specs.declared.line_reader.LineError.{LineError}
-use Rattle.ascii_lines.specs.declared.serving.Awaited.{Awaited}
-use Rattle.ascii_lines.specs.declared.serving.Awaited.TheVariants.{Input, LineEnd}
+use Rattle.ascii_lines.specs.declared.line_writer.WriteError.{WriteError}
+use Rattle.ascii_lines.specs.declared.line_writer.WriteError.TheVariants as write
 use Rattle.ascii_lines.specs.declared.serving.Next.{Next}
 use Rattle.ascii_lines.specs.declared.serving.Next.TheVariants as next
 use Rattle.ascii_lines.specs.declared.serving.Stop.{Stop}
-use Rattle.ascii_lines.proofs.HistoryLemmas.{AtEachRead-append, AtEachRead-reads, AtEachRead-writes}
-use Rattle.ascii_lines.proofs.HistoryLemmas.{IsFlushed-after, IsSettled, received_of-reads}
-use Rattle.ascii_lines.proofs.HistoryLemmas.{ends_in_read, received_of-writes, sent_of-reads}
-use Rattle.ascii_lines.specs.History.{EndsInEmptyRead}
-use Rattle.ascii_lines.proofs.LineReaderLemmas.{line_has_bytes}
+use Rattle.ascii_lines.specs.declared.serving.Stop.TheVariants as stop
+use Rattle.ascii_lines.proofs.GathersLemmas.{is_none, is_some}
+use Rattle.ascii_lines.proofs.HistoryLemmas.{AreWrites-append, AreWrites-sent, AtEachRead-append}
+use Rattle.ascii_lines.proofs.HistoryLemmas.{AtEachRead-received, AtEachRead-writes}
+use Rattle.ascii_lines.proofs.HistoryLemmas.{EndsInEmptyRead-writes, IsFlushed-after, IsFlushed-last}
+use Rattle.ascii_lines.proofs.HistoryLemmas.{received_of-bytes, received_of-writes, sent_of-bytes}
+use Rattle.ascii_lines.proofs.TurnsLemmas.{Turns-append, Turns-length, Turns-more, said-append}
+use Rattle.ascii_lines.proofs.TurnsLemmas.{some_length}
 
--- ---- steps after steps
+-- what was sent and held, and then more
+SentBy-after : (q : Bool) (a h x b h2 y : List ℕ) → a ++ h ≡ x → SentBy q b h2 (h ++ y)
+    → SentBy q (a ++ b) h2 (x ++ y)
+SentBy-after false a h x b h2 y first then = append_assoc a b h2 ∙ (ap (λ zs. a ++ zs) then
+    ∙ (sym (append_assoc a h y) ∙ ap (λ zs. zs ++ y) first))
+SentBy-after true a h x b h2 y first then = (
+  then.0,
+  append_assoc a b then.0
+      ∙ (ap (λ zs. a ++ zs) then.1 ∙ (sym (append_assoc a h y) ∙ ap (λ zs. zs ++ y) first)),
+)
 
-pub bytes_of-append : (xs ys : List Step) → bytes_of (xs ++ ys) ≡ bytes_of xs ++ bytes_of ys
-bytes_of-append xs ys = flat_map-append step_bytes xs ys
+CountsBy-after : (q : Bool) (a b c : ℕ) → b ≡ a → CountsBy q b c → CountsBy q a c
+CountsBy-after q a b c same then = subst (λ n. CountsBy q n c) same then
 
-pub replies_of-append : (ending : Ending) (xs ys : List Step)
-    → replies_of ending (xs ++ ys) ≡ replies_of ending xs ++ replies_of ending ys
-replies_of-append ending xs ys = flat_map-append (step_replies ending) xs ys
+-- some bytes were given, and then others written
+then_written : (a b c : OutputState) (bytes : List ℕ) (events : List Event)
+    → Gives of_state (read_side a) (read_side b) bytes → AreWrites events
+    → Grows b.history c.history events → c.aside ≡ b.aside
+    → Gives of_state (read_side a) (read_side c) bytes
+then_written a b c bytes events gives writes grows aside = record {
+  rest = gives.rest;
+  gave = gives.gave;
+  left = λ same. ap (λ (side : Aside). side.bytes) aside
+      ∙ gives.left (sym (ap (λ (side : Aside). side.failures) aside) ∙ same);
+  told = subst (Tells received_of a.history c.history) (append-nil bytes)
+      (tells-more received_of received_of-append a.history b.history c.history bytes []
+      gives.told
+      (tells-by received_of b.history c.history events [] grows
+      (received_of-writes events writes)));
+}
 
-module _ {H : Type 0} (answers : H → Line → List Reply → Next → H → Type 0)
-    (refuses : H → LineError → List Reply → Next → H → Type 0) (endings : Endings) where
-  pub Talks-one : (a b : Awaited) (x y : H) (step : Step)
-      → IsStep answers refuses endings a x step b y
-      → Talks answers refuses endings a x (step ∷ []) b y
-  Talks-one a b x y step is_step = (b, y, is_step, (refl, refl))
+pub supply_ended : (is_at_end : Bool) → is_ended (supply_at is_at_end) ≡ is_at_end
+supply_ended true = refl
+supply_ended false = refl
 
-module _ {H : Type 0} (answers : H → Line → List Reply → Next → H → Type 0)
-    (refuses : H → LineError → List Reply → Next → H → Type 0) where
-  -- each line that is taken in a conversation of these steps has an ending
-  abbrev pub AreEnded : (endings : Endings) (first : Awaited) (old : H) (steps : List Step)
-      (last : Awaited) (new : H) → Talks answers refuses endings first old steps last new → Type 0
-  AreEnded endings first old [] last new talks = ⊤
-  AreEnded endings first old (step ∷ steps) last new talks = ¬ (TakesUnended step first)
-      × AreEnded endings talks.0 talks.1 steps last new talks.3
+pub supply_reads : (is_at_end : Bool) → supply_at is_at_end ≢ supply.Failed
+supply_reads true is = let e : supply.Ended ≡ supply.Failed = is in cc
+supply_reads false is = let e : supply.Open ≡ supply.Failed = is in cc
 
-  -- steps, and then more, with what is known of lines without an ending
-  abbrev pub Joined : (endings : Endings) (first : Awaited) (old : H) (steps : List Step)
-      (last : Awaited) (new : H) (Both : Type 0) → Type 0
-  Joined endings first old steps last new Both =
-      (talks : Talks answers refuses endings first old steps last new)
-      × IsUnendedLast answers refuses endings first old steps last new talks
-      × (Both → AreEnded endings first old steps last new talks)
+-- ---- how long a server may read
 
-  pub Talks-join : (endings : Endings) (a b c : Awaited) (x y z : H) (xs ys : List Step)
-      (s : Talks answers refuses endings a x xs b y) (t : Talks answers refuses endings b y ys c z)
-      → IsUnendedLast answers refuses endings a x xs b y s
-      → IsUnendedLast answers refuses endings b y ys c z t
-      → (ys ≡ []) ⊎ AreEnded endings a x xs b y s
-      → Joined endings a x (xs ++ ys) c z
-      (AreEnded endings a x xs b y s × AreEnded endings b y ys c z t)
-  Talks-join endings a b c x y z [] ys (same, is) t first then may =
-      subst (λ h. Joined endings a h ys c z (⊤ × AreEnded endings b y ys c z t)) is
-      (subst (λ w. Joined endings w y ys c z (⊤ × AreEnded endings b y ys c z t)) same
-      (t, then, λ both. both.1))
-  Talks-join endings a b c x y z (step ∷ xs) ys (after, mid, is_step, talks) t first then may =
-      let others = Talks-join endings after b c mid y z xs ys talks t first.1 then
-      (elim may [ inl none ↦ inl none | inr ended ↦ inr ended.1 ]) in (
-        (after, mid, is_step, others.0),
-        (
-          λ unended. elim may [
-            | inl none ↦ ap (λ zs. zs ++ ys) (first.0 unended) ∙ none
-            | inr ended ↦ absurd (ended.0 unended)
-          ],
-          others.1,
-        ),
-        λ both. (both.0.0, others.2 (both.0.1, both.1)),
-      )
+-- how many bytes may come until the position is too far
+abbrev pub read_room : TalkState → ℕ
+read_room talk = (2 ^ 64 + talk.size + 2) - (talk.start + length talk.held)
 
--- steps, and then more
-pub Explains-append : (endings : Endings) (size start : ℕ) (xs ys : List Step)
-    (tail after : List ℕ) (is_at_end : Bool) → tail ≡ bytes_of ys ++ after
-    → Explains endings size start xs tail is_at_end
-    → Explains endings size (start + length (bytes_of xs)) ys after is_at_end
-    → Explains endings size start (xs ++ ys) after is_at_end
-Explains-append endings size start [] ys tail after is_at_end is first then =
-    subst (λ n. Explains endings size n ys after is_at_end) (add-zero start) then
-Explains-append endings size start (took input replies ∷ xs) ys tail after is_at_end is first
-    then =
-    Explains-append endings size (start + length (line_text input)) xs ys tail after is_at_end is
-    first
-    (subst (λ n. Explains endings size n ys after is_at_end)
-    (omega (arith, length-append (line_text input) (bytes_of xs))) then)
-Explains-append endings size start (rejected error replies ∷ xs) ys tail after is_at_end is
-    ((text, others, all, why), first) then = (
-      (
-        text,
-        others,
-        ap (λ zs. zs ++ after) (bytes_of-append xs ys)
-            ∙ (append_assoc (bytes_of xs) (bytes_of ys) after
-            ∙ (ap (λ zs. bytes_of xs ++ zs) (sym is) ∙ all)),
-        why,
-      ),
-      Explains-append endings size start xs ys tail after is_at_end is first then,
-    )
-Explains-append endings size start (skipped bytes ∷ xs) ys tail after is_at_end is first then =
-    Explains-append endings size (start + length bytes) xs ys tail after is_at_end is first
-    (subst (λ n. Explains endings size n ys after is_at_end)
-    (omega (arith, length-append bytes (bytes_of xs))) then)
+abbrev pub reads_of : Awaited → TalkState → ℕ
+reads_of (Nothing why) talk = 0
+reads_of awaited talk = read_room talk
 
--- why a line is rejected that did not need the end of the input for it
-rejects_on : (wanted : Wanted) (start size : ℕ) (text : List ℕ) (is_at_end : Bool)
-    (why : LineError) → Rejects wanted start size text false why
-    → Rejects wanted start size text is_at_end why
-rejects_on wanted start size text is_at_end (error.NotAscii place) rejects = rejects
-rejects_on wanted start size text is_at_end (error.LoneBreak place)
-    (strict, (i, n, is, lone)) = (
-      strict,
-      (
-        i,
-        n,
-        is,
-        record {
-          fits = lone.fits;
-          inside = lone.inside;
-          may = lone.may;
-          first = lone.first;
-          lone = elim lone.lone [
-            | inl feed ↦ inl feed
-            | inr others ↦ elim others [
-              | inl cr ↦ inr (inl cr)
-              | inr last ↦ absurd (false≢true last.3)
-            ]
-          ];
-        },
-      ),
-    )
-rejects_on wanted start size text is_at_end (error.TooLong place) rejects = rejects
-rejects_on wanted start size text is_at_end error.TooFar rejects = rejects
-rejects_on (wanted.Part count) start size text is_at_end (error.Incomplete n) (is, cut) =
-    absurd (false≢true cut.0)
-rejects_on (wanted.Line endings) start size text is_at_end (error.Incomplete n) (is, cut) =
-    absurd cut
-rejects_on (wanted.Bytes endings) start size text is_at_end (error.Incomplete n) (is, cut) =
-    absurd cut
-rejects_on wanted start size text is_at_end error.Read rejects = rejects
+-- a measure of what is left to read: none, if the conversation is over
+abbrev pub reads_left : TalkState → ℕ
+reads_left talk = reads_of talk.awaited talk
 
--- so it is if more bytes came, or none after the end
-rejects_more : (wanted : Wanted) (start size : ℕ) (text others more : List ℕ) (was is : Bool)
-    (why : LineError) → (was ≡ true → (more ≡ []) × (is ≡ true))
-    → Rejects wanted start size text (at_end_before others was) why
-    → Rejects wanted start size text (at_end_before (others ++ more) is) why
-rejects_more wanted start size text (b ∷ others) more was is why ends rejects = rejects
-rejects_more wanted start size text [] more true is why ends rejects =
-    let (none, last) = ends refl in
-    subst (λ b. Rejects wanted start size text b why)
-    (sym (ap (λ xs. at_end_before xs is) none ∙ last)) rejects
-rejects_more wanted start size text [] more false is why ends rejects =
-    rejects_on wanted start size text (at_end_before more is) why rejects
-
--- what explains errors explains them when more bytes came
-pub Explains-more : (endings : Endings) (size start : ℕ) (steps : List Step)
-    (tail more : List ℕ) (was is : Bool) → (was ≡ true → (more ≡ []) × (is ≡ true))
-    → Explains endings size start steps tail was
-    → Explains endings size start steps (tail ++ more) is
-Explains-more endings size start [] tail more was is ends first = tt
-Explains-more endings size start (took input replies ∷ steps) tail more was is ends first =
-    Explains-more endings size (start + length (line_text input)) steps tail more was is ends first
-Explains-more endings size start (rejected error replies ∷ steps) tail more was is ends
-    ((text, others, all, why), first) = (
-      (
-        text,
-        others ++ more,
-        sym (append_assoc (bytes_of steps) tail more)
-            ∙ (ap (λ zs. zs ++ more) all ∙ append_assoc text others more),
-        rejects_more (wanted.Line endings) start size text others more was is error ends why,
-      ),
-      Explains-more endings size start steps tail more was is ends first,
-    )
-Explains-more endings size start (skipped bytes ∷ steps) tail more was is ends first =
-    Explains-more endings size (start + length bytes) steps tail more was is ends first
-
--- nothing comes after the end
-none_after : (was is : Bool) (reads : List (List ℕ)) → ReachesEnd was reads is → was ≡ true
-    → (all_of reads ≡ []) × (is ≡ true)
-none_after true is reads (none, last) seen = (ap all_of none, last)
-none_after false is reads reaches seen = absurd (false≢true seen)
-
--- ---- between two steps
-
--- a step that takes no byte leads from what the handler asked for to the end of a line
-abbrev pub rank : Awaited → ℕ
-rank (Input asked) = 1
-rank (LineEnd then) = 0
-
-module _ {H : Type 0} (answers : H → Line → List Reply → Next → H → Type 0)
-    (refuses : H → LineError → List Reply → Next → H → Type 0) (old : ChannelState) (handler : H)
+reads_most : (t : TalkState) → reads_left t ≤ read_room t
+reads_most t = go t.awaited
   where
-    -- steps were held, and the conversation goes on
-    pub record Progress (awaited : Awaited) (now : ChannelState) (state : H) : Type 0 where
-      pub steps : List Step
-      pub talks : Talks answers refuses old.cursor.endings (Input next.Line) handler steps awaited
-          state
-      pub unended : IsUnendedLast answers refuses old.cursor.endings (Input next.Line) handler steps
-          awaited state talks
-      pub ended : now.cursor.stage ≢ Ended → AreEnded answers refuses old.cursor.endings
-          (Input next.Line) handler steps awaited state talks
-      pub events : List Event
-      pub grows : Grows old.output.history now.output.history events
-      pub prompt : AtEachRead (IsAnswered answers refuses old handler) [] events
-      pub received : old.cursor.held ++ received_of events ≡ bytes_of steps ++ now.cursor.held
-      pub explains : Explains old.cursor.endings old.cursor.size old.cursor.start steps
-          now.cursor.held now.cursor.is_at_end
-      pub at_end : now.cursor.is_at_end ≡ true
-          → (old.cursor.is_at_end ≡ true) ⊎ EndsInEmptyRead events
-      pub sent : sent_of events ++ now.output.buffer.bytes
-          ≡ old.output.buffer.bytes ++ replies_of old.ending steps
-      pub start : now.cursor.start ≡ old.cursor.start + length (bytes_of steps)
-      pub gave : Gives of_state (read_side old.output) (read_side now.output)
-          (received_of events)
-      pub well : ReadsWell old now
-      pub took : Appends old.output.taken now.output.taken (sent_of events)
-      pub failures : now.output.failures ≡ old.output.failures
-      pub size : now.cursor.size ≡ old.cursor.size
-      pub endings : now.cursor.endings ≡ old.cursor.endings
-      pub ending : now.ending ≡ old.ending
-      pub may : MayStep awaited now
+    go : (awaited : Awaited) → reads_of awaited t ≤ read_room t
+    go (Input asked) = omega arith
+    go (LineEnd asked) = omega arith
+    go (Nothing why) = omega arith
 
-    pub Progress-first : IsUp old → Progress (Input next.Line) old handler
-    Progress-first up = record {
-      steps = [];
-      talks = (refl, refl);
-      unended = tt;
-      ended = λ _. tt;
-      events = [];
-      grows = Grows-nil old.output.history;
-      prompt = tt;
-      received = append-nil old.cursor.held;
-      explains = tt;
-      at_end = λ seen. inl seen;
-      sent = sym (append-nil old.output.buffer.bytes);
-      start = sym (add-zero old.cursor.start);
-      gave = Gives-nil of_state (read_side old.output);
-      well = refl;
-      took = Appends-nil old.output.taken;
-      failures = refl;
-      size = refl;
-      endings = refl;
-      ending = refl;
-      may = (up, tt);
+pub lacks_length : (endings : Endings) (size : ℕ) (awaited : Awaited) (start : ℕ) (held : List ℕ)
+    → Lacks endings size awaited start held → length held ≤ size + 1
+lacks_length endings size (Input next.Line) start held lacks = omega (arith, lacks.0)
+lacks_length endings size (Input (next.Part n)) start held lacks = omega (arith, lacks.0, lacks.2)
+lacks_length endings size (Input next.Close) start held lacks = absurd lacks
+lacks_length endings size (LineEnd then) start held lacks = omega (arith, lacks.1)
+lacks_length endings size (Nothing why) start held lacks = absurd lacks
+
+-- why a conversation is over, or that it is not
+pub stop_is : (awaited : Awaited) (why : Stop) → stop_of awaited ≡ Some why
+    → awaited ≡ Nothing why
+stop_is (Nothing other) why is = let e : Some other ≡ Some why = is in cc
+stop_is (Input asked) why is = let e : None ≡ Some why = is in cc
+stop_is (LineEnd asked) why is = let e : None ≡ Some why = is in cc
+
+pub stop_none : (awaited : Awaited) → stop_of awaited ≡ None → ¬ (IsOver awaited)
+stop_none awaited is over = let e : Some over.0 ≡ None = sym (ap stop_of over.1) ∙ is in cc
+
+-- what came by one read
+pub read_is : {a b : SourceState} (is_at_end : Bool) (read : List ℕ)
+    → is_at_end ≡ (length read == 0) → ReadsOnce a b read → IsRead (supply_at is_at_end) a b read
+read_is {a} {b} true read is reads = (reads, is_none read (sym is))
+read_is {a} {b} false read is reads = (reads, is_some read (sym is))
+
+pub then_right : {P Q : Type 0} → P ⊎ Q → ¬ P → Q
+then_right (inl first) apart = absurd (apart first)
+then_right (inr then) apart = then
+
+pub reads_on : {H C : Type 0} (answers : H → Line → List Reply → Next → H → Type 0)
+    (refuses : H → LineError → List Reply → Next → H → Type 0) (old : TalkState)
+    (handler last : H) (out mid said : Saying C) (after : WindowState) (read : List ℕ) (now : Supply)
+    → mid.state.buffer ≡ out.state.buffer → mid.ending ≡ out.ending
+    → IsRead now (read_side out.state) (read_side mid.state) read → after.held ≡ old.held ++ read
+    → after.size ≡ old.size → (new : TalkState)
+    → Converses answers refuses old.endings after.size now
+    (place_at old.awaited handler old.start after.held) mid (place_of new last) said
+    → is_ended now ≡ new.is_at_end
+    → (now ≡ supply.Failed → (why : Stop) × (new.awaited ≡ Nothing why) × IsUnread why)
+    → new.size ≡ after.size → new.endings ≡ old.endings
+    → ReadsOn answers refuses old handler out new last said
+reads_on {H} {C} answers refuses old handler last out mid said after read now buffer ending reads held
+    size new converses ended unread sized same = record {
+      mid = mid;
+      read = read;
+      now = now;
+      buffer = buffer;
+      ending = ending;
+      reads = reads;
+      converses = subst (λ text. Converses answers refuses old.endings old.size now
+          (place_at old.awaited handler old.start text) mid (place_of new last) said) held
+          (subst (λ n. Converses answers refuses old.endings n now
+          (place_at old.awaited handler old.start after.held) mid (place_of new last) said) size converses);
+      ended = ended;
+      unread = unread;
+      size = sized ∙ size;
+      endings = same;
     }
 
-    -- a move after that
-    module _ (awaited : Awaited) (now : ChannelState) (state : H) (p : Progress awaited now state)
-        (bytes replies : List ℕ) (new : ChannelState)
-        (m : Moves (Lacks now.cursor.endings now.cursor.start now.cursor.size awaited) now bytes
-        replies new) where
-      abbrev more : List Event
-      more = m.before ++ (flat_map read_of m.reads ++ m.after)
+module _ {H : Type 0} (answers : H → Line → List Reply → Next → H → Type 0)
+    (refuses : H → LineError → List Reply → Next → H → Type 0) (old : ChannelState) (handler : H) where
+  abbrev Answered : List Event → Type 0
+  Answered past = IsAnswered answers refuses old handler past
 
-      received_more : received_of more ≡ all_of m.reads
-      received_more = received_of-append m.before (flat_map read_of m.reads ++ m.after)
-          ∙ (ap (λ xs. xs ++ received_of (flat_map read_of m.reads ++ m.after))
-          (received_of-writes m.before m.first)
-          ∙ (received_of-append (flat_map read_of m.reads) m.after
-          ∙ (ap (λ xs. received_of (flat_map read_of m.reads) ++ xs)
-          (received_of-writes m.after m.then)
-          ∙ (append-nil (received_of (flat_map read_of m.reads))
-          ∙ received_of-reads m.reads))))
+  abbrev endings : Endings
+  endings = old.talk.endings
 
-      sent_more : sent_of more ≡ sent_of m.before ++ sent_of m.after
-      sent_more = sent_of-append m.before (flat_map read_of m.reads ++ m.after)
-          ∙ ap (λ xs. sent_of m.before ++ xs)
-          (sent_of-append (flat_map read_of m.reads) m.after
-          ∙ ap (λ xs. xs ++ sent_of m.after) (sent_of-reads m.reads))
+  abbrev size : ℕ
+  size = old.talk.size
 
-      abbrev all : List Event
-      all = p.events ++ more
+  abbrev said_bytes : List Step → List ℕ
+  said_bytes steps = old.output.buffer.bytes ++ reply_bytes old.ending (said_in steps)
 
-      -- while the device was read, all was answered
-      answered : (past : List Event) (held : List ℕ)
-          → IsSettled old.cursor.held (bytes_of p.steps)
-          (old.output.buffer.bytes ++ replies_of old.ending p.steps) past held
-          → Lacks now.cursor.endings now.cursor.start now.cursor.size awaited held
-          → IsAnswered answers refuses old handler past
-      answered past held settled lacks = record {
-        steps = p.steps;
-        awaited = awaited;
-        state = state;
-        talks = p.talks;
-        held = held;
-        received = settled.received;
-        lacks = subst (λ n. Lacks old.cursor.endings n old.cursor.size awaited held) p.start
-            (subst (λ n. Lacks old.cursor.endings now.cursor.start n awaited held) p.size
-            (subst (λ e. Lacks e now.cursor.start now.cursor.size awaited held) p.endings
-            lacks));
-        sent = settled.sent;
-        flushed = settled.flushed;
+  -- steps led to a place, and some replies to them may be held
+  pub record Base (now : Supply) (place : Place H) (output : OutputState) : Type 0 where
+    pub steps : List Step
+    pub events : List Event
+    pub turns : Turns answers refuses endings size now (first_place old handler (received_of events))
+        steps place
+    pub grows : Grows old.output.history output.history events
+    pub prompt : AtEachRead Answered [] events
+    pub gave : Gives of_state (read_side old.output) (read_side output) (received_of events)
+    pub took : Appends old.output.taken output.taken (sent_of events)
+    pub sent : SentBy output.buffer.is_broken (sent_of events) output.buffer.bytes (said_bytes steps)
+    pub count : CountsBy output.buffer.is_broken old.output.failures output.failures
+    pub at_end : is_ended now ≡ true → (old.talk.is_at_end ≡ true) ⊎ EndsInEmptyRead events
+    pub kept : now ≢ supply.Failed → output.aside.failures ≡ old.output.aside.failures
+
+  pub base-first : IsUp old
+      → Base (supply_at old.talk.is_at_end) (first_place old handler []) old.output
+  base-first whole = record {
+    steps = [];
+    events = [];
+    turns = refl;
+    grows = Grows-nil old.output.history;
+    prompt = tt;
+    gave = Gives-nil of_state (read_side old.output);
+    took = Appends-nil old.output.taken;
+    sent = subst (λ b. SentBy b [] old.output.buffer.bytes (old.output.buffer.bytes ++ [])) (sym whole)
+        (sym (append-nil old.output.buffer.bytes));
+    count = subst (λ b. CountsBy b old.output.failures old.output.failures) (sym whole) refl;
+    at_end = λ is. inl (sym (supply_ended old.talk.is_at_end) ∙ is);
+    kept = λ _. refl;
+  }
+
+  -- writes, for the replies of more steps
+  base-writes : (now : Supply) (mid new : Place H) (a b : OutputState) → Base now mid a
+      → a.buffer.is_broken ≡ false → (more : List Step)
+      → Turns answers refuses endings size now mid more new → (events : List Event)
+      → AreWrites events → Grows a.history b.history events
+      → SentBy b.buffer.is_broken (sent_of events) b.buffer.bytes
+      (a.buffer.bytes ++ reply_bytes old.ending (said_in more))
+      → CountsBy b.buffer.is_broken a.failures b.failures
+      → Appends a.taken b.taken (sent_of events) → b.aside ≡ a.aside → Base now new b
+  base-writes now mid new a b o whole more turns events writes grows sent count took aside =
+      let same : received_of (o.events ++ events) ≡ received_of o.events =
+      received_of-append o.events events ∙ (ap (λ xs. received_of o.events ++ xs)
+      (received_of-writes events writes) ∙ append-nil (received_of o.events)) in
+      record {
+        steps = o.steps ++ more;
+        events = o.events ++ events;
+        turns = subst (λ bytes. Turns answers refuses endings size now (first_place old handler bytes)
+            (o.steps ++ more) new) (sym same)
+            (Turns-append answers refuses endings size now
+            (first_place old handler (received_of o.events)) mid new o.steps more o.turns turns);
+        grows = Grows-trans old.output.history a.history b.history o.events events o.grows grows;
+        prompt = AtEachRead-append Answered [] o.events events o.prompt
+            (AtEachRead-writes Answered o.events events writes);
+        gave = subst (Gives of_state (read_side old.output) (read_side b)) (sym same)
+            (then_written old.output a b (received_of o.events) events o.gave writes grows aside);
+        took = subst (Appends old.output.taken b.taken) (sym (sent_of-append o.events events))
+            (Appends-trans old.output.taken a.taken b.taken (sent_of o.events) (sent_of events) o.took
+            took);
+        sent = subst (λ xs. SentBy b.buffer.is_broken xs b.buffer.bytes (said_bytes (o.steps ++ more)))
+            (sym (sent_of-append o.events events))
+            (subst (λ xs. SentBy b.buffer.is_broken (sent_of o.events ++ sent_of events)
+            b.buffer.bytes xs)
+            (append_assoc old.output.buffer.bytes (reply_bytes old.ending (said_in o.steps))
+            (reply_bytes old.ending (said_in more)) ∙ ap (λ xs. old.output.buffer.bytes ++ xs)
+            (sym (ap (λ rs. reply_bytes old.ending rs) (said-append o.steps more)
+            ∙ flat_map-append (reply_text old.ending) (said_in o.steps) (said_in more))))
+            (SentBy-after b.buffer.is_broken (sent_of o.events) a.buffer.bytes (said_bytes o.steps)
+            (sent_of events) b.buffer.bytes (reply_bytes old.ending (said_in more))
+            (subst (λ q. SentBy q (sent_of o.events) a.buffer.bytes (said_bytes o.steps)) whole o.sent)
+            sent));
+        count = CountsBy-after b.buffer.is_broken old.output.failures a.failures b.failures
+            (subst (λ q. CountsBy q old.output.failures a.failures) whole o.count) count;
+        at_end = λ is. elim (o.at_end is) [
+          | inl was ↦ inl was
+          | inr ends ↦ inr (EndsInEmptyRead-writes o.events events writes ends)
+        ];
+        kept = λ read. ap (λ (side : Aside). side.failures) aside ∙ o.kept read;
       }
 
-      at_reads : AtEachRead (IsAnswered answers refuses old handler) (p.events ++ m.before)
-          (flat_map read_of m.reads)
-      at_reads = elim m.ready [
-        | inl none ↦
-            subst
-            (λ reads. AtEachRead (IsAnswered answers refuses old handler) (p.events ++ m.before)
-            (flat_map read_of reads)) (sym none) tt
-        | inr (noted, flushed) ↦
-            AtEachRead-reads old.cursor.held (bytes_of p.steps)
-            (old.output.buffer.bytes ++ replies_of old.ending p.steps)
-            (IsAnswered answers refuses old handler)
-            (Lacks now.cursor.endings now.cursor.start now.cursor.size awaited) answered
-            (p.events ++ m.before) now.cursor.held m.reads
-            (record {
-              received = ap (λ xs. old.cursor.held ++ xs)
-                  (received_of-append p.events m.before
-                  ∙ (ap (λ xs. received_of p.events ++ xs)
-                  (received_of-writes m.before m.first)
-                  ∙ append-nil (received_of p.events))) ∙ p.received;
-              sent = sent_of-append p.events m.before
-                  ∙ (ap (λ xs. sent_of p.events ++ xs) noted ∙ p.sent);
-              flushed = IsFlushed-after p.events m.before flushed;
-            }) m.asks
+  -- steps, and the replies to them
+  pub base-says : {K : Type 0} (now : Supply) (mid new : Place H) (a b : Saying K)
+      → a.ending ≡ old.ending → Base now mid a.state → a.state.buffer.is_broken ≡ false
+      → (more : List Step) → Turns answers refuses endings size now mid more new
+      → Says a (said_in more) b → Base now new b.state
+  base-says {K} now mid new a b is o whole more turns said =
+      let bytes = reply_bytes old.ending (said_in more) in
+      let says : SaysBytes false a.state bytes b.state =
+      subst (λ q. SaysBytes q a.state bytes b.state) whole
+      (subst (λ e. SaysBytes a.state.buffer.is_broken a.state (reply_bytes e (said_in more)) b.state)
+      is said.0) in
+      elim says [
+        | inl w ↦ base-writes now mid new a.state b.state o whole more turns w.passed.told.events
+            w.passed.told.writes w.passed.told.grows
+            (subst (λ q. SentBy q (sent_of w.passed.told.events) b.state.buffer.bytes
+            (a.state.buffer.bytes ++ bytes)) (sym w.stage)
+            (ap (λ xs. xs ++ b.state.buffer.bytes) w.passed.told.noted ∙ w.passed.all))
+            (subst (λ q. CountsBy q a.state.failures b.state.failures) (sym w.stage) w.failures)
+            (subst (Appends a.state.taken b.state.taken) (sym w.passed.told.noted) w.passed.took)
+            w.aside
+        | inr w ↦ base-fails now mid new a.state b.state o whole more turns w
       ]
+    where
+      base-fails : (now : Supply) (mid new : Place H) (a b : OutputState) → Base now mid a
+          → a.buffer.is_broken ≡ false → (more : List Step)
+          → Turns answers refuses endings size now mid more new
+          → FailsToWrite a b (reply_bytes old.ending (said_in more)) → Base now new b
+      base-fails now mid new a b o whole more turns w =
+          base-writes now mid new a b o whole more turns w.passed.told.events
+          w.passed.told.writes w.passed.told.grows
+          (subst (λ q. SentBy q (sent_of w.passed.told.events) b.buffer.bytes
+          (a.buffer.bytes ++ reply_bytes old.ending (said_in more))) (sym w.stage)
+          (w.passed.others, ap (λ xs. xs ++ w.passed.others) w.passed.told.noted ∙ w.passed.all))
+          (subst (λ q. CountsBy q a.failures b.failures) (sym w.stage) w.failures)
+          (subst (Appends a.taken b.taken) (sym w.passed.told.noted) w.passed.took) w.aside
 
-      prompt_more : AtEachRead (IsAnswered answers refuses old handler) [] all
-      prompt_more =
-          let P = IsAnswered answers refuses old handler in
-          AtEachRead-append P [] p.events more p.prompt
-          (AtEachRead-append P p.events m.before (flat_map read_of m.reads ++ m.after)
-          (AtEachRead-writes P p.events m.before m.first)
-          (AtEachRead-append P (p.events ++ m.before) (flat_map read_of m.reads) m.after
-          at_reads
-          (AtEachRead-writes P ((p.events ++ m.before) ++ flat_map read_of m.reads) m.after
-          m.then)))
+  -- the replies could not be sent
+  pub base-unflushed : (now : Supply) (place : Place H) (a b : OutputState) → Base now place a
+      → a.buffer.is_broken ≡ false → FailsToWrite a b [] → Base now place b
+  base-unflushed now place a b o whole w =
+      base-writes now place place a b o whole [] refl w.passed.told.events
+      w.passed.told.writes w.passed.told.grows
+      (subst (λ q. SentBy q (sent_of w.passed.told.events) b.buffer.bytes (a.buffer.bytes ++ []))
+      (sym w.stage)
+      (w.passed.others, ap (λ xs. xs ++ w.passed.others) w.passed.told.noted ∙ w.passed.all))
+      (subst (λ q. CountsBy q a.failures b.failures) (sym w.stage) w.failures)
+      (subst (Appends a.taken b.taken) (sym w.passed.told.noted) w.passed.took) w.aside
 
-      grows_more : Grows old.output.history new.output.history all
-      grows_more = Grows-trans old.output.history now.output.history new.output.history p.events
-          more p.grows m.grows
+  -- all replies were sent and flushed
+  pub record Settled (now : Supply) (place : Place H) (output : OutputState) : Type 0 where
+    pub base : Base now place output
+    pub none : output.buffer.bytes ≡ []
+    pub flushed : IsFlushed base.events
+    pub whole : output.buffer.is_broken ≡ false
 
-      received_all : old.cursor.held ++ received_of all
-          ≡ bytes_of p.steps ++ (bytes ++ new.cursor.held)
-      received_all = ap (λ xs. old.cursor.held ++ xs)
-          (received_of-append p.events more
-          ∙ ap (λ xs. received_of p.events ++ xs) received_more)
-          ∙ (sym (append_assoc old.cursor.held (received_of p.events) (all_of m.reads))
-          ∙ (ap (λ xs. xs ++ all_of m.reads) p.received
-          ∙ (append_assoc (bytes_of p.steps) now.cursor.held (all_of m.reads)
-          ∙ ap (λ xs. bytes_of p.steps ++ xs) m.text)))
+  sent_by_flush : (bytes : List ℕ) → sent_of (write_of bytes ++ Flushed ∷ []) ≡ bytes
+  sent_by_flush bytes = sent_of-append (write_of bytes) (Flushed ∷ [])
+      ∙ (append-nil (sent_of (write_of bytes)) ∙ sent_of-all bytes)
 
-      gave_all : Gives of_state (read_side old.output) (read_side new.output) (received_of all)
-      gave_all = subst (Gives of_state (read_side old.output) (read_side new.output))
-          (ap (λ xs. received_of p.events ++ xs) (sym received_more)
-          ∙ sym (received_of-append p.events more))
-          (Gives-trans of_state (read_side old.output) (read_side now.output)
-          (read_side new.output) (received_of p.events) (all_of m.reads) p.well p.gave m.gave)
+  pub base-flushed : (now : Supply) (place : Place H) (a b : OutputState) → Base now place a
+      → a.buffer.is_broken ≡ false → Flushes a b → Settled now place b
+  unfolding base-writes
+  base-flushed now place a b o whole f =
+      let events = write_of a.buffer.bytes ++ Flushed ∷ [] in
+      record {
+        base = base-writes now place place a b o whole [] refl events
+            (AreWrites-append (write_of a.buffer.bytes) (Flushed ∷ [])
+            (AreWrites-sent a.buffer.bytes) tt) f.told
+            (subst (λ q. SentBy q (sent_of events) b.buffer.bytes (a.buffer.bytes ++ [])) (sym f.stage)
+            (ap (λ xs. xs ++ b.buffer.bytes) (sent_by_flush a.buffer.bytes)
+            ∙ ap (λ xs. a.buffer.bytes ++ xs) f.none))
+            (subst (λ q. CountsBy q a.failures b.failures) (sym f.stage) f.failures)
+            (subst (Appends a.taken b.taken) (sym (sent_by_flush a.buffer.bytes)) f.took) f.aside;
+        none = f.none;
+        flushed = IsFlushed-after o.events events (IsFlushed-last (write_of a.buffer.bytes));
+        whole = f.stage;
+      }
 
-      took_all : Appends old.output.taken new.output.taken (sent_of all)
-      took_all = subst (Appends old.output.taken new.output.taken)
-          (ap (λ xs. sent_of p.events ++ xs) (sym sent_more)
-          ∙ sym (sent_of-append p.events more))
-          (Appends-trans old.output.taken now.output.taken new.output.taken (sent_of p.events)
-          (sent_of m.before ++ sent_of m.after) p.took m.took)
+  module _ (place : Place H) (a b : OutputState) (s : Settled supply.Open place a)
+      (lacks : Lacks endings size place.awaited place.start place.text)
+      (buffer : b.buffer ≡ a.buffer) where
+    answered : Answered s.base.events
+    answered = record {
+      steps = s.base.steps;
+      place = place;
+      turns = s.base.turns;
+      lacks = lacks;
+      sent = sym (append-nil (sent_of s.base.events))
+          ∙ (ap (λ xs. sent_of s.base.events ++ xs) (sym s.none)
+          ∙ subst (λ q. SentBy q (sent_of s.base.events) a.buffer.bytes (said_bytes s.base.steps))
+          s.whole s.base.sent);
+      flushed = s.flushed;
+    }
 
-      sent_all : SentBy new.output.buffer.is_broken (sent_of all) new.output.buffer.bytes
-          (old.output.buffer.bytes ++ (replies_of old.ending p.steps ++ replies))
-      sent_all = subst
-          (λ xs. SentBy new.output.buffer.is_broken xs new.output.buffer.bytes
-          (old.output.buffer.bytes ++ (replies_of old.ending p.steps ++ replies)))
-          (ap (λ xs. sent_of p.events ++ xs) (sym sent_more)
-          ∙ sym (sent_of-append p.events more))
-          (sent_by new.output.buffer.is_broken m.sent)
-        where
-          sent_by : (b : Bool)
-              → SentBy b (sent_of m.before ++ sent_of m.after) new.output.buffer.bytes
-              (now.output.buffer.bytes ++ replies)
-              → SentBy b (sent_of p.events ++ (sent_of m.before ++ sent_of m.after))
-              new.output.buffer.bytes
-              (old.output.buffer.bytes ++ (replies_of old.ending p.steps ++ replies))
-          sent_by false is = append_two (sent_of p.events) (sent_of m.before ++ sent_of m.after)
-              new.output.buffer.bytes now.output.buffer.bytes old.output.buffer.bytes
-              (replies_of old.ending p.steps) replies p.sent is
-          sent_by true (others, is) = (
-            others,
-            append_two (sent_of p.events) (sent_of m.before ++ sent_of m.after) others
-                now.output.buffer.bytes old.output.buffer.bytes (replies_of old.ending p.steps) replies
-                p.sent is,
-          )
-
-      count_all : CountsBy new.output.buffer.is_broken old.output.failures new.output.failures
-      count_all = subst (λ n. CountsBy new.output.buffer.is_broken n new.output.failures)
-          p.failures m.count
-
-      start_all : (steps : List Step) (over : List ℕ) → bytes ≡ bytes_of steps ++ over
-          → new.cursor.start ≡ old.cursor.start + length (bytes_of (p.steps ++ steps) ++ over)
-      start_all steps over is =
-          let parts : bytes_of (p.steps ++ steps) ++ over ≡ bytes_of p.steps ++ bytes =
-          ap (λ xs. xs ++ over) (bytes_of-append p.steps steps)
-          ∙ (append_assoc (bytes_of p.steps) (bytes_of steps) over
-          ∙ ap (λ xs. bytes_of p.steps ++ xs) (sym is)) in
-          omega (
-            arith,
-            m.start,
-            p.start,
-            ap length parts,
-            length-append (bytes_of p.steps) bytes,
-          )
-
-      -- what is known of the errors of the steps before
-      explained : (steps : List Step) (tail : List ℕ)
-          → now.cursor.held ++ all_of m.reads ≡ bytes_of steps ++ tail
-          → Explains now.cursor.endings now.cursor.size now.cursor.start steps tail
-          new.cursor.is_at_end
-          → Explains old.cursor.endings old.cursor.size old.cursor.start (p.steps ++ steps) tail
-          new.cursor.is_at_end
-      explained steps tail is explains =
-          let ends = new.cursor.is_at_end in
-          Explains-append old.cursor.endings old.cursor.size old.cursor.start p.steps steps
-          (now.cursor.held ++ all_of m.reads) tail ends is
-          (Explains-more old.cursor.endings old.cursor.size old.cursor.start p.steps
-          now.cursor.held (all_of m.reads) now.cursor.is_at_end ends
-          (none_after now.cursor.is_at_end ends m.reads m.reaches) p.explains)
-          (subst (λ n. Explains old.cursor.endings old.cursor.size n steps tail ends) p.start
-          (subst (λ n. Explains old.cursor.endings n now.cursor.start steps tail ends) p.size
-          (subst (λ e. Explains e now.cursor.size now.cursor.start steps tail ends) p.endings
-          explains)))
-
-    -- one step more
-    pub Progress-more : (awaited after : Awaited) (now new : ChannelState) (state last : H)
-        → Progress awaited now state → Stepped answers refuses awaited state now after last new
-        → Progress after new last
-    Progress-more awaited after now new state last p t =
-        let m = subst
-        (λ e. Moves (Lacks now.cursor.endings now.cursor.start now.cursor.size awaited) now
-        (step_bytes t.step) (step_replies e t.step) new) p.ending t.moves in
-        let steps = p.steps ++ t.step ∷ [] in
-        let one : step_bytes t.step ≡ bytes_of (t.step ∷ []) = sym (append-nil (step_bytes t.step))
-        in
-        let whole = not_broken after new t.may in
-        let is_step = subst (λ e. IsStep answers refuses e awaited state t.step after last)
-        p.endings t.is_step in
-        let joined = Talks-join answers refuses old.cursor.endings (Input next.Line) awaited after
-        handler state last p.steps (t.step ∷ []) p.talks
-        (Talks-one answers refuses old.cursor.endings awaited after state last t.step is_step)
-        p.unended (λ _. refl, tt) (inr (p.ended t.going)) in
-        let text : bytes_of steps ≡ bytes_of p.steps ++ step_bytes t.step =
-        bytes_of-append p.steps (t.step ∷ [])
-        ∙ ap (λ xs. bytes_of p.steps ++ xs) (append-nil (step_bytes t.step)) in
-        let said : replies_of old.ending steps ≡ replies_of old.ending p.steps ++ step_replies old.ending t.step =
-        replies_of-append old.ending p.steps (t.step ∷ [])
-        ∙ ap (λ xs. replies_of old.ending p.steps ++ xs) (append-nil (step_replies old.ending t.step)) in
+    -- the device was called once, and these bytes came
+    base-read : (now : Supply) (read : List ℕ) → Grows a.history b.history (read_of read)
+        → b.taken ≡ a.taken → b.failures ≡ a.failures
+        → Gives of_state (read_side old.output) (read_side b) (received_of s.base.events ++ read)
+        → (is_ended now ≡ true → read ≡ [])
+        → (now ≢ supply.Failed → b.aside.failures ≡ a.aside.failures)
+        → Base now (with_more place read) b
+    base-read now read grows same count gave ends kept =
+        let o = s.base in
+        let none : sent_of (o.events ++ read_of read) ≡ sent_of o.events =
+        sent_of-append o.events (read_of read) ∙ (ap (λ xs. sent_of o.events ++ xs) (sent_of-bytes read)
+        ∙ append-nil (sent_of o.events)) in
+        let received : received_of (o.events ++ read_of read) ≡ received_of o.events ++ read =
+        received_of-append o.events (read_of read)
+        ∙ ap (λ xs. received_of o.events ++ xs) (received_of-bytes read) in
         record {
-          steps = steps;
-          talks = joined.0;
-          unended = joined.1;
-          ended = λ going. joined.2
-              (p.ended t.going, (λ unended. going (t.unended unended), tt));
-          events = all awaited now state p (step_bytes t.step) (step_replies old.ending t.step) new m;
-          grows = grows_more awaited now state p (step_bytes t.step) (step_replies old.ending t.step) new m;
-          prompt = prompt_more awaited now state p (step_bytes t.step) (step_replies old.ending t.step) new
-              m;
-          received = received_all awaited now state p (step_bytes t.step) (step_replies old.ending t.step)
-              new m
-              ∙ (sym (append_assoc (bytes_of p.steps) (step_bytes t.step) new.cursor.held)
-              ∙ ap (λ xs. xs ++ new.cursor.held) (sym text));
-          explains = explained awaited now state p (step_bytes t.step) (step_replies old.ending t.step) new m
-              (t.step ∷ []) new.cursor.held
-              (m.text ∙ ap (λ xs. xs ++ new.cursor.held) one) t.explains;
-          at_end = ends_in_read old.cursor.is_at_end now.cursor.is_at_end new.cursor.is_at_end
-              p.events m.before m.after m.reads m.first m.then m.reaches p.at_end;
-          sent = subst
-              (λ b. SentBy b (sent_of (all awaited now state p (step_bytes t.step)
-              (step_replies old.ending t.step) new m)) new.output.buffer.bytes
-              (old.output.buffer.bytes ++ (replies_of old.ending p.steps ++ step_replies old.ending t.step))) whole
-              (sent_all awaited now state p (step_bytes t.step) (step_replies old.ending t.step) new m)
-              ∙ ap (λ xs. old.output.buffer.bytes ++ xs) (sym said);
-          start = m.start
-              ∙ (ap (λ n. n + length (step_bytes t.step)) p.start
-              ∙ omega (
-                arith,
-                ap length text,
-                length-append (bytes_of p.steps) (step_bytes t.step),
-              ));
-          gave = gave_all awaited now state p (step_bytes t.step) (step_replies old.ending t.step) new m;
-          well = t.well ∙ p.well;
-          took = took_all awaited now state p (step_bytes t.step) (step_replies old.ending t.step) new m;
-          failures = subst (λ b. CountsBy b old.output.failures new.output.failures) whole
-              (count_all awaited now state p (step_bytes t.step) (step_replies old.ending t.step) new m);
-          size = m.size ∙ p.size;
-          endings = m.endings ∙ p.endings;
-          ending = m.ending ∙ p.ending;
-          may = t.may;
+          steps = o.steps;
+          events = o.events ++ read_of read;
+          turns = subst (λ text. Turns answers refuses endings size now
+              (record (first_place old handler []) { text = text }) o.steps (with_more place read))
+              (append_assoc old.talk.held (received_of o.events) read
+              ∙ ap (λ xs. old.talk.held ++ xs) (sym received))
+              (Turns-more answers refuses endings size now
+              (first_place old handler (received_of o.events)) place o.steps read o.turns);
+          grows = Grows-trans old.output.history a.history b.history o.events (read_of read) o.grows
+              grows;
+          prompt = AtEachRead-append Answered [] o.events (read_of read) o.prompt
+              (answered, AtEachRead-received Answered (o.events ++ Read ∷ []) read);
+          gave = subst (Gives of_state (read_side old.output) (read_side b)) (sym received) gave;
+          took = subst (Appends old.output.taken b.taken) (sym none)
+              (subst (λ t. Appends old.output.taken t (sent_of o.events)) (sym same) o.took);
+          sent = subst (λ xs. SentBy b.buffer.is_broken xs b.buffer.bytes (said_bytes o.steps))
+              (sym none)
+              (subst (λ (buf : BufferState). SentBy buf.is_broken (sent_of o.events) buf.bytes
+              (said_bytes o.steps)) (sym buffer) o.sent);
+          count = subst (λ n. CountsBy b.buffer.is_broken old.output.failures n) (sym count)
+              (subst (λ (buf : BufferState). CountsBy buf.is_broken old.output.failures a.failures)
+              (sym buffer) o.count);
+          at_end = λ is. inr (
+            o.events,
+            [],
+            ap (λ xs. o.events ++ (Read ∷ map Received xs))
+                (ends is),
+            tt,
+          );
+          kept = λ reads. kept reads ∙ o.kept open_reads;
         }
       where
-        not_broken : (after : Awaited) (lines : ChannelState) → MayStep after lines
-            → lines.output.buffer.is_broken ≡ false
-        not_broken (Input asked) lines may = may.0.1
-        not_broken (LineEnd then) lines may = may.0.1
+        open_reads : supply.Open ≢ supply.Failed
+        open_reads is = let e : supply.Open ≡ supply.Failed = is in cc
 
-    -- the conversation stops
-    pub Progress-stop : (awaited : Awaited) (now new : ChannelState) (state last : H) (why : Stop)
-        → Progress awaited now state → Stopped answers refuses awaited state now why last new
-        → KnowsEnd now.cursor.is_at_end now.output.aside.bytes
-        → Halts answers refuses old handler why new last
-    Progress-stop awaited now new state last why p t known =
-        let m = subst
-        (λ e. Moves (Lacks now.cursor.endings now.cursor.start now.cursor.size awaited) now
-        (bytes_of t.steps ++ t.over) (replies_of e t.steps ++ reply_bytes e t.extra) new) p.ending
-        t.moves in
-        let bytes = bytes_of t.steps ++ t.over in
-        let replies = replies_of old.ending t.steps ++ reply_bytes old.ending t.extra in
-        let steps = p.steps ++ t.steps in
-        let talk = subst
-        (λ e. (talks : Talks answers refuses e awaited state t.steps t.then t.state)
-        × IsUnendedLast answers refuses e awaited state t.steps t.then t.state talks) p.endings
-        (t.talks, t.unended) in
-        let joined = Talks-join answers refuses old.cursor.endings (Input next.Line) awaited t.then
-        handler state t.state p.steps t.steps p.talks talk.0 p.unended talk.1
-        (elim t.going [ inl none ↦ inl none | inr going ↦ inr (p.ended going) ]) in
-        let text : bytes_of steps ≡ bytes_of p.steps ++ bytes_of t.steps =
-        bytes_of-append p.steps t.steps in
-        let said : replies_of old.ending steps ++ reply_bytes old.ending t.extra ≡ replies_of old.ending p.steps ++ replies =
-        ap (λ xs. xs ++ reply_bytes old.ending t.extra) (replies_of-append old.ending p.steps t.steps)
-        ∙ append_assoc (replies_of old.ending p.steps) (replies_of old.ending t.steps) (reply_bytes old.ending t.extra) in
-        record {
-          talk = record {
-            steps = steps;
-            awaited = t.then;
-            state = t.state;
-            talks = joined.0;
-            unended = joined.1;
-            reads = subst
-                (λ n. CountsReads why n new.output.aside.failures) p.well t.reads;
-            extra = t.extra;
-            over = t.over;
-            stops = t.stops;
-            events = all awaited now state p bytes replies new m;
-            grows = grows_more awaited now state p bytes replies new m;
-            prompt = prompt_more awaited now state p bytes replies new m;
-            received = received_all awaited now state p bytes replies new m
-                ∙ (ap (λ xs. bytes_of p.steps ++ xs)
-                (append_assoc (bytes_of t.steps) t.over new.cursor.held)
-                ∙ (sym (append_assoc (bytes_of p.steps) (bytes_of t.steps)
-                (t.over ++ new.cursor.held))
-                ∙ ap (λ xs. xs ++ (t.over ++ new.cursor.held)) (sym text)));
-            explains = explained awaited now state p bytes replies new m t.steps
-                (t.over ++ new.cursor.held)
-                (m.text ∙ append_assoc (bytes_of t.steps) t.over new.cursor.held) t.explains;
-            end = m.end known;
-            at_end = ends_in_read old.cursor.is_at_end now.cursor.is_at_end new.cursor.is_at_end
-                p.events m.before m.after m.reads m.first m.then m.reaches p.at_end;
-            start = start_all awaited now state p bytes replies new m t.steps t.over refl;
-            gave = gave_all awaited now state p bytes replies new m;
-            took = took_all awaited now state p bytes replies new m;
-            size = m.size ∙ p.size;
-            endings = m.endings ∙ p.endings;
-            ending = m.ending ∙ p.ending;
-          };
-          sent = subst
-              (λ xs. SentBy new.output.buffer.is_broken
-              (sent_of (all awaited now state p bytes replies new m)) new.output.buffer.bytes
-              (old.output.buffer.bytes ++ xs)) (sym said)
-              (sent_all awaited now state p bytes replies new m);
-          count = count_all awaited now state p bytes replies new m;
-          broken = t.broken;
-        }
+    open_kept : a.aside.failures ≡ old.output.aside.failures
+    open_kept = s.base.kept (λ is. let e : supply.Open ≡ supply.Failed = is in cc)
 
--- an input that was asked for has a byte
-some_bytes : (endings : Endings) (asked : Next) (input : Line) → IsRequest asked
-    → IsAsked endings asked input → 0 < length (line_text input)
-some_bytes endings next.Line input request is =
-    line_has_bytes endings (line_text input) input is
-some_bytes endings (next.Part n) input request is =
-    omega (arith, length-append input.body (ending_text input.ending), is.0, request)
-some_bytes endings next.Close input request is = absurd is
+    once : (now : Supply) (read : List ℕ) → ReadsOnce (read_side a) (read_side b) read
+        → (is_ended now ≡ true → read ≡ []) → Base now (with_more place read) b
+    once now read reads ends = base-read now read reads.told
+        (ap (λ (side : Aside). side.bytes) reads.aside)
+        (ap (λ (side : Aside). side.failures) reads.aside)
+        (Gives-read of_state (read_side old.output) (read_side a) (read_side b)
+        (received_of s.base.events) read open_kept reads.failures s.base.gave reads.gave reads.told)
+        ends (λ _. reads.failures)
 
--- each step takes bytes, or leads to the end of a line
-pub progresses : {H : Type 0} (answers : H → Line → List Reply → Next → H → Type 0)
-    (refuses : H → LineError → List Reply → Next → H → Type 0) (awaited after : Awaited)
-    (handler last : H) (old new : ChannelState) → MayStep awaited old
-    → Stepped answers refuses awaited handler old after last new → old.cursor.start < 2 ^ 64
-    → 2 * (2 ^ 64 - new.cursor.start) + rank after < 2 * (2 ^ 64 - old.cursor.start) + rank awaited
-progresses answers refuses awaited after handler last old new may t low =
-    go awaited may t.step t.is_step t.moves.start
-  where
-    go : (awaited : Awaited) → MayStep awaited old → (step : Step)
-        → IsStep answers refuses old.cursor.endings awaited handler step after last
-        → new.cursor.start ≡ old.cursor.start + length (step_bytes step)
-        → 2 * (2 ^ 64 - new.cursor.start) + rank after
-        < 2 * (2 ^ 64 - old.cursor.start) + rank awaited
-    go (Input asked) may (took input replies) (sequel, is, is_asked, told) start = omega (
-      arith,
-      start,
-      low,
-      some_bytes old.cursor.endings asked input may.1 is_asked,
-      ap rank is,
-    )
-    go (Input asked) may (rejected error replies) (sequel, is, line, more, goes, told) start = omega (
-      arith,
-      start,
-      ap rank is,
-    )
-    go (Input asked) may (skipped bytes) is_step start = absurd is_step
-    go (LineEnd asked) may (skipped bytes) (is, same, stops) start = omega (
-      arith,
-      start,
-      low,
-      stops.some,
-      ap rank is,
-    )
-    go (LineEnd asked) may (took input replies) is_step start = absurd is_step
-    go (LineEnd asked) may (rejected error replies) is_step start = absurd is_step
+    nothing : place ≡ with_more place []
+    nothing = ap (λ text. record place { text = text }) (sym (append-nil place.text))
+
+    -- the device was read
+    pub then_read : (now : Supply) (read : List ℕ) → IsRead now (read_side a) (read_side b) read
+        → Base now (with_more place read) b
+    then_read supply.Open read (reads, some) =
+        once supply.Open read reads (λ is. absurd (false≢true is))
+    then_read supply.Ended read (reads, none) = once supply.Ended read reads (λ _. none)
+    then_read supply.Failed read (fails, none) = subst (λ xs. Base supply.Failed (with_more place xs) b)
+        (sym none) (elim fails [
+          | inl once ↦ base-read supply.Failed [] once.told
+              (ap (λ (side : Aside). side.bytes) once.aside)
+              (ap (λ (side : Aside). side.failures) once.aside)
+              (subst (Gives of_state (read_side old.output) (read_side b))
+              (sym (append-nil (received_of s.base.events)))
+              (Gives-failed of_state (read_side old.output) (read_side a) (read_side b)
+              (received_of s.base.events) open_kept once.failures s.base.gave once.told))
+              (λ is. absurd (false≢true is)) (λ apart. absurd (apart refl))
+          | inr same ↦ unread same
+        ])
+      where
+        unread : read_side b ≡ read_side a → Base supply.Failed (with_more place []) b
+        unread same =
+            let o = s.base in
+            record {
+              steps = o.steps;
+              events = o.events;
+              turns = subst (λ xs. Turns answers refuses endings size supply.Failed
+                  (record (first_place old handler []) { text = xs }) o.steps (with_more place []))
+                  (append-nil (old.talk.held ++ received_of o.events))
+                  (Turns-more answers refuses endings size supply.Failed
+                  (first_place old handler (received_of o.events)) place o.steps [] o.turns);
+              grows = subst (λ h. Grows old.output.history h o.events)
+                  (sym (ap (λ (d : SourceState). d.history) same)) o.grows;
+              prompt = o.prompt;
+              gave = subst (λ d. Gives of_state (read_side old.output) d (received_of o.events))
+                  (sym same) o.gave;
+              took = subst (λ t. Appends old.output.taken t (sent_of o.events))
+                  (sym (ap (λ (d : SourceState). d.aside.bytes) same)) o.took;
+              sent = subst (λ (buf : BufferState). SentBy buf.is_broken (sent_of o.events) buf.bytes
+                  (said_bytes o.steps)) (sym buffer) o.sent;
+              count = subst (λ n. CountsBy b.buffer.is_broken old.output.failures n)
+                  (sym (ap (λ (d : SourceState). d.aside.failures) same))
+                  (subst (λ (buf : BufferState). CountsBy buf.is_broken old.output.failures a.failures)
+                  (sym buffer) o.count);
+              at_end = λ is. absurd (false≢true is);
+              kept = λ apart. absurd (apart refl);
+            }
+
+  -- ---- the state of the channel
+
+  -- steps were taken from a base
+  pub base-converses : {C : Type 0} (now : Supply) (mid : Place H) (out said : Saying C)
+      (new : TalkState) (last : H) → out.ending ≡ old.ending → Base now mid out.state
+      → out.state.buffer.is_broken ≡ false
+      → Converses answers refuses endings size now mid out (place_of new last) said
+      → Base now (place_of new last) said.state
+  base-converses {C} now mid out said new last is o whole c =
+      base-says now mid (place_of new last) out said is o whole c.steps c.turns c.says
+
+  abbrev pub talk_of : (now : Supply) (new : ChannelState) (last : H)
+      → Base now (place_of new.talk last) new.output → is_ended now ≡ new.talk.is_at_end
+      → (new.output.aside.failures ≡ old.output.aside.failures)
+      ⊎ ((now ≡ supply.Failed) × ((why : Stop) × (new.talk.awaited ≡ Nothing why) × IsUnread why))
+      → new.talk.size ≡ size → new.talk.endings ≡ endings → new.ending ≡ old.ending
+      → Talk answers refuses old handler new last
+  talk_of now new last b ended reads sized same ending = record {
+    steps = b.steps;
+    events = b.events;
+    now = now;
+    turns = b.turns;
+    grows = b.grows;
+    prompt = b.prompt;
+    gave = b.gave;
+    took = b.took;
+    ended = ended;
+    at_end = λ last. b.at_end (ended ∙ last);
+    reads = reads;
+    size = sized;
+    endings = same;
+    ending = ending;
+  }
+
+  -- so a conversation over the channel was held until now
+  pub so_far : {C : Type 0} (now : Supply) (mid : Place H) (out said : Saying C) (new : TalkState)
+      (last : H) → out.ending ≡ old.ending → Base now mid out.state
+      → out.state.buffer.is_broken ≡ false
+      → Converses answers refuses endings size now mid out (place_of new last) said
+      → ¬ (IsOver mid.awaited) → is_ended now ≡ new.is_at_end
+      → (now ≡ supply.Failed → (why : Stop) × (new.awaited ≡ Nothing why) × IsUnread why)
+      → new.size ≡ size → new.endings ≡ endings
+      → SoFar answers refuses old handler
+      (record { talk = new; output = said.state; ending = said.ending }) last
+  unfolding base-says base-writes
+  so_far {C} now mid out said new last is o whole c apart ended unread sized same =
+      let b = base-converses now mid out said new last is o whole c in
+      record {
+        talk = talk_of now (record { talk = new; output = said.state; ending = said.ending }) last b
+            ended (reads now b.kept unread) sized same (c.says.1 ∙ is);
+        sent = b.sent;
+        count = b.count;
+        going = c.closed;
+        used = λ ends. elim (c.ended ends) [
+          | inl was ↦ absurd (apart (stop.EndOfInput, was))
+          | inr done ↦ (
+            done,
+            elim c.rests.1 [
+              | inl lacks ↦ absurd (subst (λ a. Lacks endings size a new.start new.held) ends lacks)
+              | inr over ↦ over.1 ends
+            ],
+          )
+        ];
+        lacks = elim c.rests.1 [ inl lacks ↦ inl lacks | inr over ↦ inr over.0 ];
+        failed = λ ends. elim (c.failed ends) [
+          | inl was ↦ absurd (apart (stop.Writer, was))
+          | inr broken ↦ broken
+        ];
+      }
+    where
+      reads : (now : Supply)
+          → (now ≢ supply.Failed → said.state.aside.failures ≡ old.output.aside.failures)
+          → (now ≡ supply.Failed → (why : Stop) × (new.awaited ≡ Nothing why) × IsUnread why)
+          → (said.state.aside.failures ≡ old.output.aside.failures)
+          ⊎ ((now ≡ supply.Failed) × ((why : Stop) × (new.awaited ≡ Nothing why) × IsUnread why))
+      reads supply.Open kept unread =
+          inl (kept (λ is. let e : supply.Open ≡ supply.Failed = is in cc))
+      reads supply.Ended kept unread =
+          inl (kept (λ is. let e : supply.Ended ≡ supply.Failed = is in cc))
+      reads supply.Failed kept unread = inr (refl, unread refl)
+
+  module _ (mid : ChannelState) (last : H) (s : SoFar answers refuses old handler mid last) where
+    base_of : Base s.talk.now (place_of mid.talk last) mid.output
+    base_of = record {
+      steps = s.talk.steps;
+      events = s.talk.events;
+      turns = s.talk.turns;
+      grows = s.talk.grows;
+      prompt = s.talk.prompt;
+      gave = s.talk.gave;
+      took = s.talk.took;
+      sent = s.sent;
+      count = s.count;
+      at_end = λ is. s.talk.at_end (sym s.talk.ended ∙ is);
+      kept = λ apart. elim s.talk.reads [ inl same ↦ same | inr unread ↦ absurd (apart unread.0) ];
+    }
+
+    -- the talk, after writes
+    abbrev talk_after : (output : OutputState) (ending : Ending) → output.aside ≡ mid.output.aside
+        → ending ≡ mid.ending → Base s.talk.now (place_of mid.talk last) output
+        → Talk answers refuses old handler
+        (record { talk = mid.talk; output = output; ending = ending }) last
+    talk_after output ending aside same b =
+        talk_of s.talk.now (record { talk = mid.talk; output = output; ending = ending }) last b
+        s.talk.ended (elim s.talk.reads [
+          | inl reads ↦ inl (ap (λ (side : Aside). side.failures) aside ∙ reads)
+          | inr unread ↦ inr unread
+        ]) s.talk.size s.talk.endings (same ∙ s.talk.ending)
+
+    module _ {C : Type 0} (a b : Saying C) (state : a.state ≡ mid.output) (kept : a.ending ≡ mid.ending)
+        (left : mid.talk.is_at_end ≡ true → IsAtEnd mid.output.aside.bytes) where
+      abbrev pub sent_state : ChannelState
+      sent_state = record { talk = mid.talk; output = b.state; ending = b.ending }
+
+      -- the replies could not be sent
+      serves_writer : b.state.aside ≡ mid.output.aside → b.ending ≡ mid.ending
+          → b.state.buffer.is_broken ≡ true → Base s.talk.now (place_of mid.talk last) b.state
+          → Serves answers refuses old handler stop.Writer sent_state last
+      serves_writer aside same broken base = record {
+        talk = talk_after b.state b.ending aside same base;
+        stops = inl refl;
+        used = λ is. let e : stop.Writer ≡ stop.EndOfInput = is in cc;
+        end = λ is. subst (λ (side : Aside). IsAtEnd side.bytes) (sym aside) (left is);
+        wrote = (
+          subst (λ q. SentBy q (sent_of base.events) b.state.buffer.bytes (said_bytes base.steps))
+              broken base.sent,
+          subst (λ q. CountsBy q old.output.failures b.state.failures) broken base.count,
+          broken,
+        );
+      }
+
+      pub serves_unsent : (fault : WriteError) → SendsOut a (Err fault) b
+          → Serves answers refuses old handler stop.Writer sent_state last
+      serves_unsent fault sends = go a.state.buffer.is_broken refl sends.0
+        where
+          go : (q : Bool) → a.state.buffer.is_broken ≡ q
+              → FlushesFrom q (record { sink = a.sink; state = a.state }) (Err fault)
+              (record { sink = b.sink; state = b.state })
+              → Serves answers refuses old handler stop.Writer sent_state last
+          go false whole fails = serves_writer
+              (fails.1.aside ∙ ap (λ (out : OutputState). out.aside) state) (sends.1 ∙ kept)
+              fails.1.stage
+              (base-unflushed s.talk.now (place_of mid.talk last) a.state b.state
+              (subst (Base s.talk.now (place_of mid.talk last)) (sym state) base_of) whole fails.1)
+          go true broken same =
+              let is : b.state ≡ a.state = ap (λ (w : Writing C). w.state) same.1 in
+              serves_writer (ap (λ (out : OutputState). out.aside) (is ∙ state)) (sends.1 ∙ kept)
+              (ap (λ (out : OutputState). out.buffer.is_broken) is ∙ broken)
+              (subst (Base s.talk.now (place_of mid.talk last)) (sym (is ∙ state)) base_of)
+
+      -- they were
+      pub sent_all : (done : Unit {0}) → SendsOut a (Ok done) b
+          → (mid.output.buffer.is_broken ≡ false)
+          × Settled s.talk.now (place_of mid.talk last) b.state × (b.state.aside ≡ mid.output.aside)
+      sent_all done sends = go a.state.buffer.is_broken refl sends.0
+        where
+          go : (q : Bool) → a.state.buffer.is_broken ≡ q
+              → FlushesFrom q (record { sink = a.sink; state = a.state }) (Ok done)
+              (record { sink = b.sink; state = b.state })
+              → (mid.output.buffer.is_broken ≡ false)
+              × Settled s.talk.now (place_of mid.talk last) b.state
+              × (b.state.aside ≡ mid.output.aside)
+          go false whole f = (
+            sym (ap (λ (out : OutputState). out.buffer.is_broken) state) ∙ whole,
+            base-flushed s.talk.now (place_of mid.talk last) a.state b.state
+                (subst (Base s.talk.now (place_of mid.talk last)) (sym state) base_of) whole f,
+            f.aside ∙ ap (λ (out : OutputState). out.aside) state,
+          )
+          go true broken same = let e : Ok done ≡ Err write.Write = same.0 in cc
+
+      -- a conversation that is over has been held
+      pub serves_all : (done : Unit {0}) → SendsOut a (Ok done) b → (why : Stop)
+          → mid.talk.awaited ≡ Nothing why
+          → Serves answers refuses old handler why sent_state last
+      serves_all done sends why over =
+          let all = sent_all done sends in
+          let base = all.1.base in
+          let wrote : (sent_of base.events ≡ said_bytes base.steps) × IsFlushed base.events
+          × (b.state.buffer.bytes ≡ []) × (b.state.failures ≡ old.output.failures)
+          × (b.state.buffer.is_broken ≡ false) = (
+            sym (append-nil (sent_of base.events))
+                ∙ (ap (λ xs. sent_of base.events ++ xs) (sym all.1.none)
+                ∙ subst (λ q. SentBy q (sent_of base.events) b.state.buffer.bytes
+                (said_bytes base.steps)) all.1.whole base.sent),
+            all.1.flushed,
+            all.1.none,
+            subst (λ q. CountsBy q old.output.failures b.state.failures) all.1.whole base.count,
+            all.1.whole,
+          ) in
+          record {
+            talk = talk_after b.state b.ending all.2 (sends.1 ∙ kept) base;
+            stops = inr over;
+            used = λ is. s.used (over ∙ ap Nothing is);
+            end = λ is. subst (λ (side : Aside). IsAtEnd side.bytes) (sym all.2) (left is);
+            wrote = by why over wrote;
+          }
+        where
+          by : (why : Stop) → mid.talk.awaited ≡ Nothing why → {events : List Event} {bytes : List ℕ}
+              → (sent_of events ≡ bytes) × IsFlushed events × (b.state.buffer.bytes ≡ [])
+              × (b.state.failures ≡ old.output.failures) × (b.state.buffer.is_broken ≡ false)
+              → Wrote why old.output events bytes b.state
+          by stop.Closed is {events} {bytes} wrote = wrote
+          by stop.EndOfInput is {events} {bytes} wrote = wrote
+          by (stop.Reader error) is {events} {bytes} wrote = wrote
+          by stop.Writer is {events} {bytes} wrote =
+              absurd (false≢true (sym (sent_all done sends).0 ∙ s.failed is))
+
+      -- the device was read once more
+      module _ (done : Unit {0}) (sends : SendsOut a (Ok done) b)
+          (apart : ¬ (IsOver mid.talk.awaited)) (said : Saying C) (new : TalkState) (next : H)
+          (r : ReadsOn answers refuses mid.talk last b new next said) where
+        open_now : s.talk.now ≡ supply.Open
+        open_now = elim s.going [ inl is ↦ is | inr over ↦ absurd (apart over) ]
+
+        lacks_now : Lacks endings size mid.talk.awaited mid.talk.start mid.talk.held
+        lacks_now = elim s.lacks [ inl lacks ↦ lacks | inr over ↦ absurd (apart over) ]
+
+        converses_now : Converses answers refuses endings size r.now
+            (place_with mid.talk last r.read) r.mid (place_of new next) said
+        converses_now = subst (λ e. Converses answers refuses e size r.now
+            (place_with mid.talk last r.read) r.mid (place_of new next) said) s.talk.endings
+            (subst (λ n. Converses answers refuses mid.talk.endings n r.now
+            (place_with mid.talk last r.read) r.mid (place_of new next) said) s.talk.size r.converses)
+
+        pub so_far-read : SoFar answers refuses old handler
+            (record { talk = new; output = said.state; ending = said.ending }) next
+        so_far-read =
+            let settled = subst (λ now. Settled now (place_of mid.talk last) b.state) open_now
+            (sent_all done sends).1 in
+            so_far r.now (place_with mid.talk last r.read) r.mid said new next
+            (r.ending ∙ (sends.1 ∙ (kept ∙ s.talk.ending)))
+            (then_read (place_of mid.talk last) b.state r.mid.state settled lacks_now r.buffer r.now
+            r.read r.reads)
+            (ap (λ (buf : BufferState). buf.is_broken) r.buffer ∙ settled.whole) converses_now apart
+            r.ended r.unread (r.size ∙ s.talk.size) (r.endings ∙ s.talk.endings)
+
+        pub reads_smaller : mid.talk.start < 2 ^ 64 → reads_left new < reads_left mid.talk
+        reads_smaller low = go r.now r.reads converses_now
+          where
+            same : (t : TalkState) → ¬ (IsOver t.awaited) → reads_left t ≡ read_room t
+            same t going = by t.awaited refl
+              where
+                by : (awaited : Awaited) → t.awaited ≡ awaited → reads_left t ≡ read_room t
+                by (Input asked) is = ap (λ a. reads_of a t) is
+                by (LineEnd asked) is = ap (λ a. reads_of a t) is
+                by (Nothing why) is = absurd (going (why, is))
+
+            some : 0 < reads_left mid.talk
+            some = omega (
+              arith,
+              same mid.talk apart,
+              low,
+              lacks_length endings mid.talk.size mid.talk.awaited mid.talk.start mid.talk.held
+                  (subst (λ n. Lacks endings n mid.talk.awaited mid.talk.start mid.talk.held)
+                  (sym s.talk.size) lacks_now),
+            )
+
+            over_less : IsOver new.awaited → reads_left new < reads_left mid.talk
+            over_less over = subst (λ a. reads_of a new < reads_left mid.talk) (sym over.1) some
+
+            go : (now : Supply) → IsRead now (read_side b.state) (read_side r.mid.state) r.read
+                → Converses answers refuses endings size now (place_with mid.talk last r.read) r.mid
+                (place_of new next) said → reads_left new < reads_left mid.talk
+            go supply.Open (reads, more) c =
+                let moved = Turns-length answers refuses endings size supply.Open
+                (place_with mid.talk last r.read) (place_of new next) c.steps c.turns in
+                omega (
+                  arith,
+                  moved,
+                  length-append mid.talk.held r.read,
+                  some_length r.read more,
+                  same mid.talk apart,
+                  some,
+                  r.size,
+                  reads_most new,
+                )
+            go supply.Ended reads c = over_less (elim c.closed [
+              | inl is ↦ absurd (let e : supply.Ended ≡ supply.Open = is in cc)
+              | inr over ↦ over
+            ])
+            go supply.Failed reads c = over_less (elim c.closed [
+              | inl is ↦ absurd (let e : supply.Failed ≡ supply.Open = is in cc)
+              | inr over ↦ over
+            ])
+
+-- a line is awaited, and steps were taken
+pub resumed : {H C : Type 0} (answers : H → Line → List Reply → Next → H → Type 0)
+    (refuses : H → LineError → List Reply → Next → H → Type 0) (old : ChannelState) (handler : H)
+    (talk : TalkState) (out said : Saying C) → talk ≡ old.talk → out.state ≡ old.output
+    → out.ending ≡ old.ending → IsUp old → (new : TalkState) (last : H)
+    → Converses answers refuses talk.endings talk.size (supply_at talk.is_at_end)
+    (place_of (record talk { awaited = Input next.Line }) handler) out (place_of new last) said
+    → new.size ≡ talk.size → new.endings ≡ talk.endings → new.is_at_end ≡ talk.is_at_end
+    → SoFar answers refuses old handler
+    (record { talk = new; output = said.state; ending = said.ending }) last
+resumed {H} {C} answers refuses old handler talk out said is state ending up new last converses size
+    endings at_end =
+    let now = supply_at old.talk.is_at_end in
+    let c : Converses answers refuses old.talk.endings old.talk.size now
+    (place_of (record old.talk { awaited = Input next.Line }) handler) out (place_of new last) said =
+    subst (λ (t : TalkState). Converses answers refuses t.endings t.size (supply_at t.is_at_end)
+    (place_of (record t { awaited = Input next.Line }) handler) out (place_of new last) said) is
+    converses in
+    so_far answers refuses old handler now (first_place old handler []) out said new last ending
+    (subst (Base answers refuses old handler now (first_place old handler [])) (sym state)
+    (base-first answers refuses old handler up))
+    (ap (λ (o : OutputState). o.buffer.is_broken) state ∙ up)
+    (subst (λ text. Converses answers refuses old.talk.endings old.talk.size now
+    (record { awaited = Input next.Line; handler = handler; start = old.talk.start; text = text }) out
+    (place_of new last) said) (sym (append-nil old.talk.held)) c)
+    (λ over. let e : Input next.Line ≡ Nothing over.0 = over.1 in cc)
+    (supply_ended old.talk.is_at_end ∙ sym (at_end ∙ ap (λ (t : TalkState). t.is_at_end) is))
+    (λ is. absurd (supply_reads old.talk.is_at_end is))
+    (size ∙ ap (λ (t : TalkState). t.size) is) (endings ∙ ap (λ (t : TalkState). t.endings) is)

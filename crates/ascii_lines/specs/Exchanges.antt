@@ -1,10 +1,8 @@
 -- A conversation as its handler sees it: what it was given, and what it replied, in order.
-use Rattle.std.specs.Prelude.{◌≡◌, ℕ, List, [], ◌∷◌, ◌++◌, IfSome, None, Some}
-use Rattle.std.specs.Io.KnownBytes.{Appends}
-use Rattle.std.specs.List.{flat_map}
+use Rattle.std.specs.Prelude.{◌≡◌, ℕ, List, [], ◌∷◌, ◌++◌, None, Some}
 use Rattle.std.specs.declared.option.Option.{Option}
-use Rattle.ascii.specs.Lines.{Line, LinesEndedBy}
-use Rattle.ascii_lines.specs.Serve.{ChannelState, Reply, Step, rejected, reply_text, skipped, took}
+use Rattle.ascii.specs.Lines.{Line}
+use Rattle.ascii_lines.specs.Replies.{Reply, Step, rejected, skipped, took}
 use Rattle.ascii_lines.specs.declared.line_reader.LineError.{LineError}
 use Rattle.ascii_lines.specs.declared.serving.Next.{Next}
 use Rattle.ascii_lines.specs.declared.serving.Next.TheVariants as next
@@ -52,12 +50,3 @@ module _ {H : Type 0} (answers : H → Line → List Reply → Next → H → Ty
       → answers old input replies asked new → (replies ≡ reply input ∷ []) × (asked ≡ next.Line))
       × ((old : H) (error : LineError) (replies : List Reply) (asked : Next) (new : H)
       → refuses old error replies asked new → asked ≡ next.Close)
-
--- `lines` are the lines of the input of a channel from the state `old` on, if its bytes are known,
--- and its device took the bytes that were held for it, and then the reply to each of them, in order
-pub record RepliesToAll (reply : Line → Reply) (old new : ChannelState) : Type 0 where
-  pub lines : List Line
-  pub input : IfSome old.output.aside.bytes (λ rest.
-      LinesEndedBy old.cursor.endings (old.cursor.held ++ rest) lines)
-  pub output : Appends old.output.taken new.output.taken (old.output.buffer.bytes
-      ++ flat_map (λ line. reply_text old.ending (reply line)) lines)

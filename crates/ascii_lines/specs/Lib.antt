@@ -6,8 +6,10 @@ pub mod History
 pub mod LineBuffer
 pub mod LineReader
 pub mod LineWriter
+pub mod Replies
 pub mod Serve
 pub mod Skipping
+pub mod Turns
 pub mod Wanted
 pub mod WriteBuffer
 pub use Rattle.ascii.specs.Endings

@@ -93,3 +93,13 @@ pub record Refills (old new : WindowState) (source now : SourceState)
       (λ _. FailsOnce source now × (new.held ≡ old.held) × (new.is_at_end ≡ old.is_at_end))
   pub size : new.size ≡ old.size
   pub room : new.room ≡ old.room
+
+-- what filling a buffer does: `Refills`, or nothing, if calls of the source have failed 2 ^ 64 - 1 times
+pub record Fills (old new : WindowState) (source now : SourceState)
+    (result : Result (Unit {0}) DeviceFault) : Type 0 where
+  pub outcome : MatchResult result
+      (λ _. (read : List ℕ) × ReadsOnce source now read × (new.held ≡ old.held ++ read)
+      × (new.is_at_end ≡ (length read == 0)))
+      (λ _. (FailsOnce source now ⊎ (now ≡ source)) × (new.held ≡ old.held)
+      × (new.is_at_end ≡ old.is_at_end))
+  pub size : new.size ≡ old.size

@@ -15,11 +15,13 @@
 //! | keep all lines, or those up to an empty one | `collect_lines`, `read_block` |
 //! | write lines, and texts with line breaks in them | `LineWriter::write_line`, `write_part` |
 //! | answer each line of an input with lines | `serve`, with a `Handler` |
+//! | answer lines in an event loop of your own | `Conversation`, with the same `Handler` |
 //!
 //! After an error, `position` of a reader is that of the line or part at fault; after an error of `skip_line` it is the
 //! one after the bytes that were skipped. The reader holds all bytes that it has read from there on.
 #![tactic(auto)]
 
+mod conversation;
 mod errors;
 mod line_buffer;
 mod line_cursor;
@@ -33,8 +35,9 @@ mod wanted;
 pub use ascii::iter::{Ending, Endings};
 pub use ascii::{AsciiChar, AsciiStr, AsciiString};
 pub use ascii_devices::{Channel, DeviceFault, Duplex, Input, Output, Sink, Source};
+pub use conversation::{Awaited, Conversation, Supply};
 pub use line_reader::{LineError, LineReader, ReadBytes, ReadLine, ReadPart};
 pub use line_writer::{LineWriter, WriteError};
 pub use owned_lines::{Block, BlockEnd, CollectedLines, OwnedLine, collect_lines, read_block};
-pub use serving::{Awaited, Handler, LineChannel, Next, Replies, Stop, serve};
+pub use serving::{Handler, LineChannel, Next, Replies, Stop, serve};
 pub use skipping::SkippedLine;

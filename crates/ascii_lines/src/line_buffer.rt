@@ -1,9 +1,11 @@
 //! A buffer of fixed size between a source and its lines.
 
-ghost use Rattle.std.specs.Prelude.{◌≡◌, ◌+◌, ◌<◌, ◌≤◌, ◌++◌, [], IfOk, OnErr, List, ℕ, false};
+ghost use Rattle.std.specs.Prelude.{◌≡◌, ◌+◌, ◌<◌, ◌≤◌, ◌++◌, ◌⊎◌, [], IfOk, OnErr, List, ℕ, false};
 ghost use Rattle.std.specs.Prelude.{drop, length, slice_range, take};
 ghost use Rattle.ascii_devices.specs.States.{source_state};
-ghost use Rattle.ascii_lines.specs.LineBuffer.{IsAsciiLength, IsUsable, ReadsBehind, Refills};
+ghost use Rattle.ascii_lines.specs.Turns.{PutsBehind};
+ghost use Rattle.ascii_lines.specs.LineBuffer.{Fills, IsAsciiLength, IsUsable, ReadsBehind};
+ghost use Rattle.ascii_lines.specs.LineBuffer.{Refills};
 
 use crate::wanted::Wanted;
 use ascii::kernels::first_other;
@@ -148,6 +150,7 @@ impl<A: Allocator> LineBuffer<A> {
         ensures size { self.new.size ≡ self.old.size }
         ensures room { self.new.room ≡ self.old.room }
         ensures spare { self.new.spare + length self.new.held ≡ self.new.room }
+        ensures roomy { (self.new.size < self.new.room) × (1 < self.new.room) }
         ensures at_end { self.new.is_at_end ≡ self.old.is_at_end }
     {
         if self.from > 0 {
@@ -157,6 +160,34 @@ impl<A: Allocator> LineBuffer<A> {
             self.from = 0;
         }
         self.given = 0;
+    }
+
+    /// Takes as many of these bytes as there is room for, after those that it holds.
+    pub(crate) fn put(&mut self, bytes: &[u8]) -> usize
+        ensures { PutsBehind self.old self.new bytes.now result }
+    {
+        self.move_to_front();
+        let n = copy_behind(bytes, &mut self.bytes, self.filled);
+        if self.checked == self.filled {
+            self.checked = self.filled + ascii_len(&self.bytes[self.filled..self.filled + n]);
+        }
+        self.filled += n;
+        n
+    }
+
+    /// Reads more bytes after those that it holds, by one call of the source, unless calls have failed
+    /// `u64::MAX` times.
+    pub(crate) fn fill<S: Source>(&mut self, source: &mut S) -> Result<(), DeviceFault>
+        requires more { self.old.is_at_end ≡ false }
+        requires room { (length self.old.held ≤ self.old.size) ⊎ (length self.old.held ≤ 1) }
+        ensures { Fills self.old self.new (source_state S.Source source.old)
+            (source_state S.Source source.new) result }
+    {
+        self.move_to_front();
+        if source.failures() == u64::MAX {
+            return Err(DeviceFault);
+        }
+        self.refill(source)
     }
 
     /// Reads more bytes after those that it holds, by one call of the source.
@@ -186,6 +217,20 @@ fn ascii_len(bytes: &[u8]) -> usize
         Some(place) => place,
         None => bytes.len(),
     }
+}
+
+/// Copies as many bytes as there is room for after the first `filled` ones.
+fn copy_behind(from: &[u8], bytes: &mut [u8], filled: usize) -> usize
+    requires { filled ≤ length bytes.old }
+    ensures front { take filled bytes.new ≡ take filled bytes.old }
+    ensures len { length bytes.new ≡ length bytes.old }
+    ensures within { (result ≤ length from.now) × (filled + result ≤ length bytes.new) }
+    ensures copied { slice_range bytes.new filled (filled + result) ≡ take result from.now }
+    ensures most { (result ≡ length from.now) ⊎ (filled + result ≡ length bytes.new) }
+{
+    let n = from.len().min(bytes.len() - filled);
+    bytes[filled..filled + n].copy_from_slice(&from[..n]);
+    n
 }
 
 /// Reads bytes after the first `filled` ones, by one call of the source.

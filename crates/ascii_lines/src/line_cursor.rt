@@ -1,11 +1,10 @@
 //! Where a reader of lines is in its input. The source is an argument of each call that reads, so that a
 //! device of both directions may have another owner.
 
-ghost use Rattle.std.specs.Prelude.{◌≡◌, ◌↔◌, IfOk, IsTrue, false};
+ghost use Rattle.std.specs.Prelude.{◌≡◌, IfOk};
 ghost use Rattle.ascii_lines.specs.LineReader.{AdvancesFrom, at_end, reading_at, state_at};
-ghost use Rattle.ascii.specs.Endings.{any_text};
-ghost use Rattle.ascii_lines.specs.Skipping.{HasNoEnd, Skips, SkipsLine};
-ghost use Rattle.ascii_lines.specs.Wanted.{KnowsEnd, MustRead};
+ghost use Rattle.ascii_lines.specs.Skipping.{Skips, SkipsLine};
+ghost use Rattle.ascii_lines.specs.Wanted.{KnowsEnd};
 ghost use Rattle.ascii_devices.specs.States.{source_state};
 
 use crate::line_buffer::LineBuffer;
@@ -14,8 +13,7 @@ use crate::skipping::{
     SkippedLine, is_final, nothing_skipped, pass_line, skip_error, skipped, stage_after,
     whole_endings,
 };
-use crate::wanted::{Wanted, must_read, take_wanted};
-use ascii::endings::find_end;
+use crate::wanted::{Wanted, take_wanted};
 use ascii::iter::Endings;
 use ascii_devices::Source;
 use std::alloc::{AllocError, Allocator};
@@ -89,36 +87,6 @@ impl<A: Allocator> LineCursor<A> {
         ensures { result.now ≡ self.now.lent }
     {
         self.buffer.line_bytes()
-    }
-
-    /// Whether the source has to be read for what is wanted.
-    pub(crate) fn waits(&self, wanted: Wanted) -> bool
-        ensures { IsTrue result ↔ (self.now.stage ≡ Stage.Open) × (self.now.is_at_end ≡ false)
-            × MustRead wanted self.now.start self.now.size self.now.held }
-    {
-        match self.stage {
-            Stage::Open if !self.buffer.is_at_end() => {
-                must_read(&self.buffer, wanted, self.start)
-            }
-            _ => false,
-        }
-    }
-
-    /// Whether the source has to be read for the end of a line: no line ends in the bytes that were read and not
-    /// taken, and the source has not ended. A CR or an LF by itself does not end a line.
-    pub(crate) fn lacks_line_end(&self) -> bool
-        ensures { IsTrue result ↔ (self.now.is_at_end ≡ false)
-            × HasNoEnd (any_text self.now.endings) self.now.held }
-    {
-        let text = self.buffer.front(self.buffer.len());
-        !self.buffer.is_at_end() && find_end(whole_endings(self.endings), text, 0).is_none()
-    }
-
-    /// Whether every line was taken.
-    pub(crate) fn has_ended(&self) -> bool
-        ensures { IsTrue result ↔ (self.now.stage ≡ Stage.Ended) }
-    {
-        matches!(self.stage, Stage::Ended)
     }
 
     /// Takes the bytes of what is wanted, and returns whether there are any.

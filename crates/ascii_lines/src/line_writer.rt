@@ -8,10 +8,7 @@ ghost use Rattle.ascii_lines.specs.LineWriter.{fresh_writer, line_with};
 ghost use Rattle.ascii_devices.specs.Buffered.{output_state};
 ghost use Rattle.ascii_lines.specs.WriteBuffer.{PutsBytes, SendsAll};
 
-use crate::line_cursor::LineCursor;
-use crate::line_reader::LineError;
-use crate::skipping::SkippedLine;
-use crate::wanted::Wanted;
+use crate::line_buffer::LineBuffer;
 use ascii::AsciiStr;
 use ascii::endings::first_break;
 use ascii::iter::Ending;
@@ -174,40 +171,22 @@ impl<K: Sink, A: Allocator> LineWriter<K, A> {
 }
 
 impl<C: Channel, A: Allocator> LineWriter<C, A> {
-    ghost use Rattle.ascii_devices.specs.States.{of_state};
-    ghost use Rattle.ascii_lines.specs.LineReader.{AdvancesFrom, reading_at};
+    ghost use Rattle.std.specs.Prelude.{◌⊎◌};
+    ghost use Rattle.ascii_lines.specs.LineBuffer.{Fills};
     ghost use Rattle.ascii_lines.specs.Serve.{read_side};
-    ghost use Rattle.ascii_lines.specs.Skipping.{Skips};
-    ghost use Rattle.ascii_lines.specs.Wanted.{KnowsEnd};
 
-    /// Takes what is wanted from the other direction of the device.
-    pub(crate) fn advance<B: Allocator>(
+    /// Reads bytes of the other direction of the device into a buffer.
+    pub(crate) fn fill<B: Allocator>(
         &mut self,
-        cursor: &mut LineCursor<B>,
-        wanted: Wanted,
-    ) -> Result<bool, LineError>
-        requires { KnowsEnd cursor.old.is_at_end self.old.state.aside.bytes }
-        ensures advances { AdvancesFrom cursor.old.stage wanted
-            (reading_at of_state cursor.old (read_side self.old.state)) result
-            (reading_at of_state cursor.new (read_side self.new.state)) }
+        buffer: &mut LineBuffer<B>,
+    ) -> Result<(), DeviceFault>
+        requires more { buffer.old.is_at_end ≡ false }
+        requires room { (length buffer.old.held ≤ buffer.old.size) ⊎ (length buffer.old.held ≤ 1) }
+        ensures fills { Fills buffer.old buffer.new (read_side self.old.state)
+            (read_side self.new.state) result }
         ensures buffer { self.new.state.buffer ≡ self.old.state.buffer }
     {
-        cursor.advance(&mut self.sink, wanted)
-    }
-
-    /// Reads over a line that comes from the other direction of the device.
-    pub(crate) fn skip_line<B: Allocator>(
-        &mut self,
-        cursor: &mut LineCursor<B>,
-        most: u64,
-    ) -> Result<SkippedLine, LineError>
-        requires { KnowsEnd cursor.old.is_at_end self.old.state.aside.bytes }
-        ensures skips { Skips most
-            (reading_at of_state cursor.old (read_side self.old.state)) result
-            (reading_at of_state cursor.new (read_side self.new.state)) }
-        ensures buffer { self.new.state.buffer ≡ self.old.state.buffer }
-    {
-        cursor.skip_line(&mut self.sink, most)
+        buffer.fill(&mut self.sink)
     }
 }
 

@@ -5,28 +5,27 @@
 //! Replies are sent when the channel has to read its device before it can go on: so no reply waits for bytes that a
 //! client sends only after it, and the replies to requests that come together are gathered in the buffer.
 
-ghost use Rattle.std.specs.Prelude.{if◌then◌else◌, ◌≡◌, ◌-◌, ◌^◌, ◌∷◌, [], IfOk, IsTrue, List};
-ghost use Rattle.std.specs.Prelude.{Err, Ok, false};
+ghost use Rattle.std.specs.Prelude.{◌≡◌, ◌∷◌, [], IfOk, IsTrue, List};
 ghost use Rattle.std.specs.Str.{IsAscii};
 ghost use Rattle.ascii.specs.Lines.{Line};
 ghost use Rattle.ascii.specs.View.{text_of};
-ghost use Rattle.ascii_lines.specs.Exchanges.{IsReplier, RepliesToAll};
-ghost use Rattle.ascii_lines.specs.LineWriter.{line_with};
+ghost use Rattle.ascii_lines.specs.Exchanges.{IsReplier};
 ghost use Rattle.ascii_lines.specs.LineReader.{read_line_in};
-ghost use Rattle.ascii_lines.specs.Serve.{GoesOn, Halts, IsInputOf, IsLineOutcome, IsRequest, IsUp};
-ghost use Rattle.ascii_lines.specs.Serve.{Reply, Says, SaysPart, SendsOut, Serves, asked_by};
-ghost use Rattle.ascii_lines.specs.Serve.{is_unbroken, line_given, line_reply};
+ghost use Rattle.ascii_lines.specs.LineWriter.{line_with};
+ghost use Rattle.ascii_lines.specs.Replies.{IsInputOf, IsLineOutcome, IsRequest, Reply, Says};
+ghost use Rattle.ascii_lines.specs.Replies.{SaysPart, is_unbroken, line_given, line_reply};
+ghost use Rattle.ascii_lines.specs.Serve.{IsUp, RepliesToAll, SendsOut, Serves};
 ghost use Rattle.ascii_lines.specs.Wanted.{IsOne};
 
-use crate::line_cursor::LineCursor;
+use crate::conversation::Conversation;
+use crate::line_buffer::LineBuffer;
 use crate::line_reader::{LineError, ReadLine, line_at};
 use crate::line_writer::{LineWriter, WriteError};
-use crate::skipping::{SkippedLine, is_final};
 use crate::wanted::Wanted;
 use ascii::endings::first_break;
 use ascii::iter::{Ending, Endings};
 use ascii::{AsciiStr, bytes};
-use ascii_devices::{Channel, Sink};
+use ascii_devices::{Channel, DeviceFault, Sink};
 use std::alloc::{AllocError, Allocator, Global};
 use std::marker::Model;
 
@@ -56,25 +55,6 @@ pub enum Stop {
     Writer,
 }
 
-/// What a conversation awaits. No call takes or returns it: contracts of handlers and servers speak of it.
-#[derive(Clone, Copy, PartialEq, Eq, Debug)]
-pub enum Awaited {
-    /// What the handler has asked for.
-    Input(Next),
-    /// The end of a line that was rejected, and then what the handler has asked for.
-    LineEnd(Next),
-}
-
-/// What was taken of the input.
-pub(crate) enum Taken {
-    /// The bytes of what was wanted.
-    Input,
-    /// Nothing: there are no more lines.
-    End,
-    /// Nothing: there is this error in place of what was wanted.
-    Fault(LineError),
-}
-
 /// Where a handler writes its replies: lines with the ending of the conversation, and parts. If the
 /// device fails, nothing more is written, and the conversation stops after the answer.
 #[derive(Drop)]
@@ -84,7 +64,7 @@ pub struct Replies<K: Sink, A: Allocator = Global> {
 }
 
 impl<K: Sink, A: Allocator> Model for Replies<K, A> {
-    ghost use Rattle.ascii_lines.specs.Serve.{Saying};
+    ghost use Rattle.ascii_lines.specs.Replies.{Saying};
 
     ghost Value = { Saying K };
 
@@ -194,14 +174,21 @@ impl<K: Sink, A: Allocator> Replies<K, A> {
     }
 
     /// Whether the device has failed.
-    fn is_broken(&self) -> bool
+    pub(crate) fn is_broken(&self) -> bool
         ensures { result ≡ self.now.state.buffer.is_broken }
     {
         self.writer.is_broken()
     }
 
-    /// Sends what was written.
-    fn flush(&mut self) -> Result<(), WriteError>
+    /// Sends the replies that were written and flushes the device, or returns `Write` if the device fails, or has failed
+    /// before. `serve` does it before it reads; it is for an event loop that feeds a `Conversation`.
+    ///
+    ///     let writer = LineWriter::new(alloc, Output::new(Vec::new(alloc)), 64)?;
+    ///     let mut replies = Replies::new(writer, Ending::Lf);
+    ///     replies.part(AsciiStr::literal("ab"));
+    ///     replies.flush() // Ok(())
+    ///     replies.into_writer().into_sink().into_inner() // [97, 98]
+    pub fn flush(&mut self) -> Result<(), WriteError>
         ensures { SendsOut self.old result self.new }
     {
         self.writer.flush()
@@ -209,39 +196,23 @@ impl<K: Sink, A: Allocator> Replies<K, A> {
 }
 
 impl<C: Channel, A: Allocator> Replies<C, A> {
-    ghost use Rattle.ascii_devices.specs.States.{of_state};
-    ghost use Rattle.ascii_lines.specs.LineReader.{AdvancesFrom, reading_at};
-    ghost use Rattle.ascii_lines.specs.Serve.{ReadsBeside, read_side};
-    ghost use Rattle.ascii_lines.specs.Skipping.{Skips};
-    ghost use Rattle.ascii_lines.specs.Wanted.{KnowsEnd};
+    ghost use Rattle.std.specs.Prelude.{◌⊎◌, ◌≤◌, false, length};
+    ghost use Rattle.ascii_lines.specs.LineBuffer.{Fills};
+    ghost use Rattle.ascii_lines.specs.Serve.{read_side};
 
-    /// Takes what is wanted from the device.
-    fn advance<B: Allocator>(
+    /// Reads bytes of the device into a buffer.
+    pub(crate) fn fill<B: Allocator>(
         &mut self,
-        cursor: &mut LineCursor<B>,
-        wanted: Wanted,
-    ) -> Result<bool, LineError>
-        requires { KnowsEnd cursor.old.is_at_end self.old.state.aside.bytes }
-        ensures advances { AdvancesFrom cursor.old.stage wanted
-            (reading_at of_state cursor.old (read_side self.old.state)) result
-            (reading_at of_state cursor.new (read_side self.new.state)) }
-        ensures beside { ReadsBeside self.old self.new }
+        buffer: &mut LineBuffer<B>,
+    ) -> Result<(), DeviceFault>
+        requires more { buffer.old.is_at_end ≡ false }
+        requires room { (length buffer.old.held ≤ buffer.old.size) ⊎ (length buffer.old.held ≤ 1) }
+        ensures fills { Fills buffer.old buffer.new (read_side self.old.state)
+            (read_side self.new.state) result }
+        ensures buffer { self.new.state.buffer ≡ self.old.state.buffer }
+        ensures ending { self.new.ending ≡ self.old.ending }
     {
-        self.writer.advance(cursor, wanted)
-    }
-
-    /// Reads over a line that comes from the device.
-    fn skip_line<B: Allocator>(
-        &mut self,
-        cursor: &mut LineCursor<B>,
-    ) -> Result<SkippedLine, LineError>
-        requires { KnowsEnd cursor.old.is_at_end self.old.state.aside.bytes }
-        ensures skips { Skips (2 ^ 64 - 1)
-            (reading_at of_state cursor.old (read_side self.old.state)) result
-            (reading_at of_state cursor.new (read_side self.new.state)) }
-        ensures beside { ReadsBeside self.old self.new }
-    {
-        self.writer.skip_line(cursor, u64::MAX)
+        self.writer.fill(buffer)
     }
 }
 
@@ -251,7 +222,7 @@ pub trait Handler {
     ghost use Rattle.ascii.specs.Lines.{Line};
     ghost use Rattle.ascii_lines.specs.declared.line_reader.LineError.{LineError};
     ghost use Rattle.ascii_lines.specs.declared.serving.Next.{Next};
-    ghost use Rattle.ascii_lines.specs.Serve.{Reply};
+    ghost use Rattle.ascii_lines.specs.Replies.{Reply};
 
     // In a state, to a line or a part, which has no ending, these replies may be given, this asked for next, and
     // this state left.
@@ -304,7 +275,7 @@ pub trait Handler {
 /// Lines over a device of both directions, through one buffer of fixed size for each direction.
 #[derive(Drop)]
 pub struct LineChannel<C: Channel, A: Allocator = Global> {
-    cursor: LineCursor<A>,
+    conversation: Conversation<A>,
     replies: Replies<C, A>,
 }
 
@@ -317,13 +288,13 @@ impl<C: Channel, A: Allocator> Model for LineChannel<C, A> {
     ghost view = { λ c. record {
       device = c.replies.sink;
       state = record {
-        cursor = c.cursor;
+        talk = c.conversation;
         output = c.replies.state;
         ending = c.replies.ending;
       };
     } };
 
-    ghost invariant = { λ c. KnowsEnd c.cursor.is_at_end c.replies.state.aside.bytes };
+    ghost invariant = { λ c. KnowsEnd c.conversation.is_at_end c.replies.state.aside.bytes };
 }
 
 impl<C: Channel> LineChannel<C> {
@@ -349,18 +320,19 @@ impl<C: Channel> LineChannel<C> {
             lines.state ≡ fresh_channel size endings ending C.Sink device) }
         ensures device { IfOk result (λ lines. lines.device ≡ device) }
     {
-        let cursor = LineCursor::new(alloc, size, endings)?;
+        let conversation = Conversation::new(alloc, size, endings)?;
         let writer = LineWriter::new(alloc, device, size)?;
         Ok(LineChannel {
-            cursor,
+            conversation,
             replies: Replies::new(writer, ending),
         })
     }
 }
 
 impl<C: Channel, A: Allocator> LineChannel<C, A> {
-    ghost use Rattle.ascii_lines.specs.Serve.{Finishes, Greets, IsWantedAt, MaySkip, MayStep};
-    ghost use Rattle.ascii_lines.specs.Serve.{Prepares, SkipOutcome, TakeOutcome, StepOutcome};
+    ghost use Rattle.std.specs.Prelude.{false};
+    ghost use Rattle.ascii_lines.specs.Serve.{Greets, ReadsOn, SoFar, saying_of};
+    ghost use Rattle.ascii_lines.specs.Turns.{IsOver, stop_of};
     ghost use Rattle.ascii_lines.specs.Wanted.{KnowsEnd};
 
     /// Writes a line before a conversation, or returns an error as `LineWriter::write_line` does. `serve` sends it
@@ -400,113 +372,43 @@ impl<C: Channel, A: Allocator> LineChannel<C, A> {
     ///     serve(&mut lines, &mut Echo) // EndOfInput
     ///     lines.position() // 4
     pub fn position(&self) -> u64
-        ensures position { result ≡ self.now.state.cursor.start }
-        ensures end { KnowsEnd self.now.state.cursor.is_at_end self.now.state.output.aside.bytes }
+        ensures position { result ≡ self.now.state.talk.start }
+        ensures end { KnowsEnd self.now.state.talk.is_at_end self.now.state.output.aside.bytes }
     {
-        self.cursor.start()
+        self.conversation.position()
     }
 
-    /// Hands the handler what is awaited.
-    fn step<H: Handler>(&mut self, handler: &mut H, awaited: Awaited) -> Result<Awaited, Stop>
-        requires { MayStep awaited self.old.state }
-        ensures { StepOutcome H.answers H.refuses awaited handler.old self.old.state result
-            handler.new self.new.state }
+    /// Awaits a line, and takes all steps that can be taken.
+    fn resume<H: Handler>(&mut self, handler: &mut H)
+        requires { IsUp self.old.state }
+        ensures { SoFar H.answers H.refuses self.old.state handler.old self.new.state handler.new }
     {
-        match awaited {
-            Awaited::Input(next) => self.asked_step(handler, next),
-            Awaited::LineEnd(next) => self.skip_step(next),
-        }
+        self.conversation.resume(handler, &mut self.replies);
     }
 
-    /// Hands the handler what it asks for.
-    fn asked_step<H: Handler>(&mut self, handler: &mut H, next: Next) -> Result<Awaited, Stop>
-        requires up { IsUp self.old.state }
-        requires request { IsRequest next }
-        ensures { StepOutcome H.answers H.refuses (Awaited.Input next) handler.old self.old.state
-            result handler.new self.new.state }
+    /// Reads the device once, and takes all steps that can be taken.
+    fn read<H: Handler>(&mut self, handler: &mut H)
+        requires going { ¬ (IsOver self.old.state.talk.awaited) }
+        requires more { self.old.state.talk.is_at_end ≡ false }
+        ensures { ReadsOn H.answers H.refuses self.old.state.talk handler.old (saying_of self.old)
+            self.new.state.talk handler.new (saying_of self.new) }
     {
-        match next {
-            Next::Line => {
-                let endings = self.cursor.endings();
-                self.input_step(handler, Wanted::Line(endings))
-            }
-            Next::Part(n) => self.input_step(handler, Wanted::Part(n)),
-            Next::Close => Err(Stop::Closed),
-        }
+        self.conversation.read(handler, &mut self.replies);
     }
 
-    /// Hands the handler what is wanted, or tells it of the error in its place.
-    fn input_step<H: Handler>(&mut self, handler: &mut H, wanted: Wanted) -> Result<Awaited, Stop>
-        requires up { IsUp self.old.state }
-        requires wanted { IsWantedAt self.old.state wanted }
-        ensures { StepOutcome H.answers H.refuses (Awaited.Input (asked_by wanted)) handler.old
-            self.old.state result handler.new self.new.state }
+    /// Sends the replies.
+    fn flush(&mut self) -> Result<(), WriteError>
+        ensures sends { SendsOut (saying_of self.old) result (saying_of self.new) }
+        ensures talk { self.new.state.talk ≡ self.old.state.talk }
     {
-        let start = self.cursor.start();
-        match self.take(wanted)? {
-            Taken::Input => {
-                let input = input_at(wanted, start, self.cursor.line_bytes());
-                let next = handler.answer(input.text, input.ending, &mut self.replies);
-                unless_broken(self.replies.is_broken(), Awaited::Input(next))
-            }
-            Taken::End => Err(Stop::EndOfInput),
-            Taken::Fault(error) => {
-                let next = handler.refuse(error, &mut self.replies);
-                let awaited = after_error(wanted, error, next)?;
-                unless_broken(self.replies.is_broken(), awaited)
-            }
-        }
+        self.replies.flush()
     }
 
-    /// Takes the bytes of what is wanted. Replies are sent before the device is read. The only error is
-    /// `Writer`.
-    fn take(&mut self, wanted: Wanted) -> Result<Taken, Stop>
-        requires up { IsUp self.old.state }
-        requires wanted { IsWantedAt self.old.state wanted }
-        ensures { TakeOutcome wanted self.old.state result self.new.state }
+    /// Why the conversation is over, if it is.
+    fn stop(&self) -> Option<Stop>
+        ensures { result ≡ stop_of self.now.state.talk.awaited }
     {
-        let waits = self.cursor.waits(wanted);
-        self.prepare(waits)?;
-        Ok(match self.replies.advance(&mut self.cursor, wanted) {
-            Ok(true) => Taken::Input,
-            Ok(false) => Taken::End,
-            Err(error) => Taken::Fault(error),
-        })
-    }
-
-    /// Reads over a line that was rejected. Replies are sent before the device is read.
-    fn skip_step(&mut self, next: Next) -> Result<Awaited, Stop>
-        requires { MaySkip self.old.state }
-        ensures { SkipOutcome next self.old.state result self.new.state }
-    {
-        let waits = self.cursor.lacks_line_end();
-        self.prepare(waits)?;
-        match self.replies.skip_line(&mut self.cursor) {
-            Ok(_) if self.cursor.has_ended() => Err(Stop::EndOfInput),
-            Ok(_) => Ok(Awaited::Input(next)),
-            Err(error) => Err(Stop::Reader(error)),
-        }
-    }
-
-    /// Sends the replies if the device will be read.
-    fn prepare(&mut self, waits: bool) -> Result<(), Stop>
-        requires { self.old.state.output.buffer.is_broken ≡ false }
-        ensures { Prepares waits self.old.state result self.new.state }
-    {
-        if waits && self.replies.flush().is_err() {
-            return Err(Stop::Writer);
-        }
-        Ok(())
-    }
-
-    /// Sends the replies after a conversation that stopped for this reason, and returns why it did.
-    fn finish(&mut self, stop: Stop) -> Stop
-        ensures { Finishes stop self.old.state result self.new.state }
-    {
-        match self.replies.flush() {
-            Ok(()) => stop,
-            Err(_) => Stop::Writer,
-        }
+        self.conversation.stop()
     }
 }
 
@@ -523,7 +425,7 @@ impl<C: Channel, A: Allocator> LineChannel<C, A> {
 /// If the handler gives each line one reply, asks for the next line and closes at an error, and the input ends, then the
 /// device has taken the reply to each line of the input.
 ///
-/// Condition: the channel has not stopped at an error.
+/// Condition: no call of the device to write has failed.
 ///
 /// In the example, `Echo` is a handler that replies with the text that it is handed, and to an error with `no`.
 ///
@@ -542,31 +444,22 @@ pub fn serve<C: Channel, H: Handler, A: Allocator>(
     ensures replies { (reply : Line → Reply) → IsReplier H.answers H.refuses reply
         → result ≡ Stop.EndOfInput → RepliesToAll reply lines.old.state lines.new.state }
 {
-    let stop = converse(lines, handler);
-    lines.finish(stop)
-}
-
-/// Answers the lines of a channel one by one. The last replies may not have been sent.
-fn converse<C: Channel, H: Handler, A: Allocator>(
-    lines: &mut LineChannel<C, A>,
-    handler: &mut H,
-) -> Stop
-    requires { IsUp lines.old.state }
-    ensures { Halts H.answers H.refuses lines.old.state handler.old result lines.new.state
-        handler.new }
-{
-    let mut awaited = Awaited::Input(Next::Line);
-    'steps: loop {
+    lines.resume(handler);
+    'reads: loop {
         let _start = lines.position();
-        match lines.step(handler, awaited) {
-            Ok(then) => awaited = then,
-            Err(stop) => return stop,
+        match lines.flush() {
+            Ok(()) => {}
+            Err(_) => return Stop::Writer,
         }
+        if let Some(stop) = lines.stop() {
+            return stop;
+        }
+        lines.read(handler);
     }
 }
 
 /// The line or part of these bytes.
-fn input_at(wanted: Wanted, start: u64, bytes: &[u8]) -> ReadLine<'_>
+pub(crate) fn input_at(wanted: Wanted, start: u64, bytes: &[u8]) -> ReadLine<'_>
     requires ascii { IsAscii bytes.now }
     requires one { IsOne wanted bytes.now }
     ensures { IsInputOf wanted bytes.now (read_line_in result).item }
@@ -578,28 +471,5 @@ fn input_at(wanted: Wanted, start: u64, bytes: &[u8]) -> ReadLine<'_>
             text: bytes::as_ascii_str_unchecked(bytes),
             ending: Ending::Absent,
         },
-    }
-}
-
-/// What is awaited after an error in place of what was wanted, or why the conversation stops.
-fn after_error(wanted: Wanted, error: LineError, next: Next) -> Result<Awaited, Stop>
-    ensures { GoesOn wanted error next result }
-{
-    match (wanted, next) {
-        (Wanted::Line(_) | Wanted::Bytes(_), Next::Line | Next::Part(_)) if !is_final(error) => {
-            Ok(Awaited::LineEnd(next))
-        }
-        _ => Err(Stop::Reader(error)),
-    }
-}
-
-/// What is awaited, unless the device has failed.
-fn unless_broken(is_broken: bool, awaited: Awaited) -> Result<Awaited, Stop>
-    ensures { result ≡ if is_broken then Err Stop.Writer else Ok awaited }
-{
-    if is_broken {
-        Err(Stop::Writer)
-    } else {
-        Ok(awaited)
     }
 }

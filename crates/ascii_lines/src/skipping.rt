@@ -157,7 +157,7 @@ pub(crate) fn pass_line<S: Source, A: Allocator>(
 }
 
 /// How many bytes of `text` are taken, of which at most `left` may be, and why no more are.
-fn part_of_line(endings: Endings, text: &[u8], left: u64) -> (usize, Option<PassEnd>)
+pub(crate) fn part_of_line(endings: Endings, text: &[u8], left: u64) -> (usize, Option<PassEnd>)
     ensures within { result.0 ≤ length text.now }
     ensures part { TakesPart endings text.now left result.0 result.1 }
 {

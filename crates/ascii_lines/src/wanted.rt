@@ -1,9 +1,9 @@
 //! What a reader is asked for, and the search for it in a buffer.
 
-ghost use Rattle.std.specs.Prelude.{◌≡◌, ◌≤◌, ◌↔◌, IfErr, IfOk, IsTrue, MatchOption, OnOk, length};
+ghost use Rattle.std.specs.Prelude.{◌≡◌, ◌≤◌, IfErr, IfOk, MatchOption, OnOk, length};
 ghost use Rattle.ascii_devices.specs.States.{source_state};
 ghost use Rattle.ascii_lines.specs.LineReader.{Seeks, TakesOff};
-ghost use Rattle.ascii_lines.specs.Wanted.{EndsAt, LacksUpTo, MustRead, Refuses};
+ghost use Rattle.ascii_lines.specs.Wanted.{EndsAt, LacksUpTo, Refuses};
 ghost use Rattle.ascii_lines.specs.Wanted.{FindsFault, IsEndOf, IsRefusal, IsSearched, IsUnfit};
 ghost use Rattle.ascii_lines.specs.Wanted.{KnowsEnd, MayFit};
 
@@ -46,16 +46,6 @@ pub(crate) fn take_wanted<S: Source, A: Allocator>(
     let end = end_of(wanted, start, buffer.front(n), is_last)?;
     buffer.take(n);
     Ok((end, is_last))
-}
-
-/// Whether the source has to be read for what is wanted.
-pub(crate) fn must_read<A: Allocator>(buffer: &LineBuffer<A>, wanted: Wanted, start: u64) -> bool
-    ensures { IsTrue result ↔ MustRead wanted start buffer.now.size buffer.now.held }
-{
-    let text = buffer.usable(wanted);
-    may_fit(wanted, start, buffer.size()).is_ok()
-        && text.len() == buffer.len()
-        && find(wanted, text, 0).is_none()
 }
 
 /// Reads the source until what is wanted is in the buffer. Returns the number of its bytes, or of all if it
@@ -110,7 +100,7 @@ pub(crate) fn find(wanted: Wanted, text: &[u8], searched: usize) -> Option<usize
 
 /// Rejects a part that does not fit in a buffer of this size, or ends too far.
 #[inline]
-fn may_fit(wanted: Wanted, start: u64, size: usize) -> Result<(), LineError>
+pub(crate) fn may_fit(wanted: Wanted, start: u64, size: usize) -> Result<(), LineError>
     ensures ok { OnOk result (MayFit wanted start size) }
     ensures err { IfErr result (IsUnfit wanted start size) }
 {
@@ -129,7 +119,12 @@ fn may_fit(wanted: Wanted, start: u64, size: usize) -> Result<(), LineError>
 /// The position after the bytes of what is wanted, or why they are not given. If it is not among
 /// them, they are the last of the input.
 #[inline]
-fn end_of(wanted: Wanted, start: u64, bytes: &[u8], is_last: bool) -> Result<u64, LineError>
+pub(crate) fn end_of(
+    wanted: Wanted,
+    start: u64,
+    bytes: &[u8],
+    is_last: bool,
+) -> Result<u64, LineError>
     ensures { IsEndOf wanted start bytes.now is_last result }
 {
     if let Wanted::Part(_) = wanted
@@ -160,7 +155,7 @@ fn find_lone_break(wanted: Wanted, bytes: &[u8]) -> Option<usize>
 
 /// The error of bytes that do not fit in a buffer of this size, or of which the one at `place` is not
 /// ASCII.
-fn refusal(start: u64, place: usize, size: usize) -> LineError
+pub(crate) fn refusal(start: u64, place: usize, size: usize) -> LineError
     ensures { IsRefusal start place size result }
 {
     if place == size {

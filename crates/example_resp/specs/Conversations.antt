@@ -1,7 +1,7 @@
 -- What a session does in a whole conversation.
 use Rattle.std.specs.Prelude.{◌≡◌, ◌⊎◌, ℕ, List, [], ◌∷◌, map}
 use Rattle.ascii.specs.Lines.{Line}
-use Rattle.ascii_lines.specs.Serve.{Reply, line_reply}
+use Rattle.ascii_lines.specs.Replies.{Reply, line_reply}
 use Rattle.ascii_lines.specs.declared.line_reader.LineError.{LineError}
 use Rattle.ascii_lines.specs.declared.serving.Next.{Next}
 use Rattle.ascii_lines.specs.declared.serving.Next.TheVariants as next

@@ -11,7 +11,7 @@ use std::alloc::Allocator;
 /// Answers the requests of a client until the input ends or an error occurs, and returns why it stopped. At each
 /// read of the device, every request that came before has been answered, and every reply sent.
 ///
-/// Condition: the channel has not stopped at an error, and the session is a new one.
+/// Condition: no call of the device to write has failed, and the session is a new one.
 pub fn converse<C: Channel, A: Allocator>(
     lines: &mut LineChannel<C, A>,
     session: &mut Session,

@@ -3,7 +3,7 @@
 ghost use Rattle.std.specs.Option.{option_map};
 ghost use Rattle.std.specs.Prelude.{◌≡◌, ◌∷◌, ◌++◌, [], IfOk, List, OnOk, codes, decimal, map, ℕ};
 ghost use Rattle.ascii.specs.View.{text_of};
-ghost use Rattle.ascii_lines.specs.Serve.{Says, line_reply};
+ghost use Rattle.ascii_lines.specs.Replies.{Says, line_reply};
 ghost use Rattle.example_resp.specs.Commands.{Tells, after, error_line, value_reply};
 ghost use Rattle.example_resp.specs.Store.{contents_of};
 

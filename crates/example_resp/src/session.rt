@@ -3,7 +3,7 @@
 ghost use Rattle.std.specs.Option.{option_map};
 ghost use Rattle.std.specs.Prelude.{◌≡◌, IfOk, map, slice_get};
 ghost use Rattle.ascii.specs.View.{text_of};
-ghost use Rattle.ascii_lines.specs.Serve.{IsRequest, Says, line_reply};
+ghost use Rattle.ascii_lines.specs.Replies.{IsRequest, Says, line_reply};
 ghost use Rattle.example_resp.specs.Store.{string_texts};
 ghost use Rattle.example_resp.specs.Session.{asked_after, next_after, reply_lines, value_at};
 ghost use Rattle.example_resp.specs.Requests.{IsLength};

@@ -9,10 +9,14 @@ use Rattle.std.proofs.lemmas.Grind.{flat_map-append}
 use Rattle.std.specs.List.{AllZip, flat_map}
 use Rattle.std.specs.Prelude.{All, MatchResult, codes}
 use Rattle.ascii.specs.Case.{lower_image}
-use Rattle.ascii_lines.specs.Serve.{Step, Talks, line_reply, skipped, took}
-use Rattle.ascii_lines.specs.declared.serving.Awaited.{Awaited}
-use Rattle.ascii_lines.specs.declared.serving.Awaited.TheVariants.{Input, LineEnd}
-use Rattle.ascii_lines.specs.Serve as serve
+use Rattle.ascii_lines.specs.Replies.{Step, line_reply, skipped, took}
+use Rattle.ascii_lines.proofs.ExchangeLemmas.{over_ends}
+use Rattle.ascii_lines.specs.Turns.{IsTurnAt, Place, Turns, awaited_by}
+use Rattle.ascii_lines.specs.declared.conversation.Supply.{Supply}
+use Rattle.ascii_lines.specs.declared.serving.Stop.TheVariants as stop
+use Rattle.ascii_lines.specs.declared.conversation.Awaited.{Awaited}
+use Rattle.ascii_lines.specs.declared.conversation.Awaited.TheVariants.{Input, LineEnd, Nothing}
+use Rattle.ascii_lines.specs.Replies as serve
 use Rattle.ascii_lines.specs.declared.line_reader.LineError.{LineError}
 use Rattle.ascii_lines.specs.declared.line_reader.LineError.TheVariants as error
 use Rattle.ascii_lines.specs.declared.serving.Next.TheVariants as next
@@ -77,41 +81,44 @@ pub record Transcript (old : State) (steps : List Step) (new : State) : Type 0 w
   pub kept : new.received ≡ mid.received
   pub folder : new.folder ≡ mid.folder
 
--- nothing follows the end of a conversation
-closed_ends : (endings : Endings) (old new : State) (last : Awaited) (steps : List Step)
-    → Talks session_answers session_refuses endings (Input next.Close) old steps last new
-    → (steps ≡ []) × (new ≡ old)
-closed_ends endings old new last [] talks = (refl, talks.1)
-closed_ends endings old new last (took input replies ∷ steps) (after, mid, is_step, talks) =
-    absurd is_step.2
-closed_ends endings old new last (serve.rejected error replies ∷ steps)
-    (after, mid, is_step, talks) =
-    absurd (let e : next.Close ≡ next.Line = is_step.2 in cc)
-closed_ends endings old new last (skipped bytes ∷ steps) (after, mid, is_step, talks) =
-    absurd is_step
-
 -- a conversation has a transcript, whatever it awaits first: to read over a line changes nothing
-pub transcript : (endings : Endings) (old new : State) (first last : Awaited)
-    (steps : List Step) → Talks session_answers session_refuses endings first old steps last new
-    → Transcript old steps new
-transcript endings old new first last [] (same, is) = record {
+pub transcript : (endings : Endings) (size : ℕ) (now : Supply) (a b : Place State)
+    (steps : List Step) → Turns session_answers session_refuses endings size now a steps b
+    → Transcript a.handler steps b.handler
+transcript endings size now a b [] same = record {
   exchanges = [];
   given_up = [];
   is_last = inl refl;
   are = refl;
-  mid = old;
+  mid = a.handler;
   runs = refl;
-  kept = ap (λ (s : State). s.received) is;
-  folder = ap (λ (s : State). s.folder) is;
+  kept = ap (λ (p : Place State). p.handler.received) same;
+  folder = ap (λ (p : Place State). p.handler.folder) same;
 }
-transcript endings old new first last (step ∷ steps) (after, mid, is_step, talks) =
-    go first step (transcript endings mid new after last steps talks) is_step
+transcript endings size now a b (step ∷ steps) (mid, turn, turns) =
+    go a.awaited step (transcript endings size now mid b steps turns) turn
   where
-    go : (first : Awaited) (step : Step) → Transcript mid steps new
-        → serve.IsStep session_answers session_refuses endings first old step after mid
-        → Transcript old (step ∷ steps) new
-    go (Input asked) (took input replies) others (sequel, is, is_asked, (texts, said, answers)) =
-        elim answers [
+    skips : (bytes : List ℕ) → mid.handler ≡ a.handler → Transcript mid.handler steps b.handler
+        → Transcript a.handler (skipped bytes ∷ steps) b.handler
+    skips bytes same others = record {
+      exchanges = others.exchanges;
+      given_up = others.given_up;
+      is_last = others.is_last;
+      are = others.are;
+      mid = others.mid;
+      runs = subst (λ s. Runs s others.exchanges others.mid) same others.runs;
+      kept = others.kept;
+      folder = others.folder;
+    }
+
+    go : (awaited : Awaited) (step : Step) → Transcript mid.handler steps b.handler
+        → IsTurnAt session_answers session_refuses endings size now awaited a step mid
+        → Transcript a.handler (step ∷ steps) b.handler
+    go (Input asked) (took input replies) others t = gave t.8
+      where
+        gave : session_answers a.handler input replies t.0 mid.handler
+            → Transcript a.handler (took input replies ∷ steps) b.handler
+        gave (texts, said, answers) = elim answers [
           | inl answered_it ↦
               record {
                 exchanges = record { line = Some input.body; replies = texts }
@@ -120,19 +127,14 @@ transcript endings old new first last (step ∷ steps) (after, mid, is_step, tal
                 is_last = others.is_last;
                 are = (texts, others.exchanges ++ others.given_up, said, refl, others.are);
                 mid = others.mid;
-                runs = (mid, sequel, answered_it, others.runs);
+                runs = (mid.handler, t.0, answered_it, others.runs);
                 kept = others.kept;
                 folder = others.folder;
               }
           | inr gives ↦
-              let ends = closed_ends endings mid new last steps
-              (subst
-              (λ n. Talks session_answers session_refuses endings (Input n) mid steps last
-              new) gives.closes
-              (subst
-              (λ a. Talks session_answers session_refuses endings a mid steps last new) is
-              talks)) in
-              subst (λ ss. Transcript old (took input replies ∷ ss) new) (sym ends.0)
+              let ends = over_ends session_answers session_refuses endings size now mid b steps
+              stop.Closed (t.3 ∙ ap awaited_by gives.closes) turns in
+              subst (λ ss. Transcript a.handler (took input replies ∷ ss) b.handler) (sym ends.0)
               (record {
                 exchanges = [];
                 given_up = answered input.body gives.fault ∷ [];
@@ -144,38 +146,32 @@ transcript endings old new first last (step ∷ steps) (after, mid, is_step, tal
                   refl,
                   refl,
                 );
-                mid = old;
+                mid = a.handler;
                 runs = refl;
-                kept = ap (λ (s : State). s.received) ends.1 ∙ gives.kept;
-                folder = ap (λ (s : State). s.folder) ends.1 ∙ gives.folder;
+                kept = ap (λ (p : Place State). p.handler.received) ends.1 ∙ gives.kept;
+                folder = ap (λ (p : Place State). p.handler.folder) ends.1 ∙ gives.folder;
               })
         ]
-    go (Input asked) (serve.rejected error replies) others
-        (sequel, is, line, more, goes, (texts, said, refuses, asks)) =
-        record {
+    go (Input asked) (serve.rejected error replies) others t = told t.5
+      where
+        told : session_refuses a.handler error replies t.0 mid.handler
+            → Transcript a.handler (serve.rejected error replies ∷ steps) b.handler
+        told (texts, said, refuses, asks) = record {
           exchanges = record { line = None; replies = texts } ∷ others.exchanges;
           given_up = others.given_up;
           is_last = others.is_last;
           are = (texts, others.exchanges ++ others.given_up, said, refl, others.are);
           mid = others.mid;
-          runs = (mid, sequel, (error, refuses), others.runs);
+          runs = (mid.handler, t.0, (error, refuses), others.runs);
           kept = others.kept;
           folder = others.folder;
         }
-    go (Input asked) (skipped bytes) others none = absurd none
-    go (LineEnd asked) (skipped bytes) others (is, same, stops) =
-        record {
-          exchanges = others.exchanges;
-          given_up = others.given_up;
-          is_last = others.is_last;
-          are = others.are;
-          mid = others.mid;
-          runs = subst (λ s. Runs s others.exchanges others.mid) same others.runs;
-          kept = others.kept;
-          folder = others.folder;
-        }
+    go (Input asked) (skipped bytes) others t =
+        skips bytes (ap (λ (p : Place State). p.handler) t.3) others
+    go (LineEnd asked) (skipped bytes) others t = skips bytes t.0 others
     go (LineEnd asked) (took input replies) others none = absurd none
     go (LineEnd asked) (serve.rejected error replies) others none = absurd none
+    go (Nothing why) step others none = absurd none
 
 -- ---- replies
 

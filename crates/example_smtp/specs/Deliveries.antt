@@ -4,8 +4,9 @@ use Rattle.std.specs.Prelude.{◌≡◌, ◌≢◌, ◌⊎◌, ◌<◌, ℕ, Lis
 use Rattle.std.specs.Prelude.{length, map}
 use Rattle.std.specs.declared.option.Option.{Option}
 use Rattle.ascii.specs.Lines.{Line}
-use Rattle.ascii_lines.specs.Serve as serve
-use Rattle.ascii_lines.specs.Serve.{ChannelState, Serves, Step, line_reply, rejected, skipped, took}
+use Rattle.ascii_lines.specs.Replies as serve
+use Rattle.ascii_lines.specs.Replies.{Step, line_reply, rejected, skipped, took}
+use Rattle.ascii_lines.specs.Serve.{ChannelState, Serves}
 use Rattle.ascii_lines.specs.declared.line_reader.LineError.{LineError}
 use Rattle.ascii_lines.specs.declared.serving.Next.{Next}
 use Rattle.ascii_lines.specs.declared.serving.Next.TheVariants as next
@@ -172,5 +173,5 @@ pub record ServesMail (old : ChannelState) (session : State) (why : Stop) (new :
   pub given_up : List Exchange
   pub is_last : IsLast given_up
   pub are : AreExchanges served.talk.steps (exchanges ++ given_up)
-  pub delivers : Delivers exchanges (received_texts served.talk.state)
-  pub files : Files session.folder (received_texts served.talk.state) served.talk.state.folder
+  pub delivers : Delivers exchanges (received_texts last)
+  pub files : Files session.folder (received_texts last) last.folder

@@ -12,7 +12,7 @@ use std::alloc::Allocator;
 /// The messages that the session has received are those that the lines and their replies deliver. At each read of the
 /// device, every line that came before has been answered, and every reply sent.
 ///
-/// Condition: the channel has not stopped at an error, and the session is a new one.
+/// Condition: no call of the device to write has failed, and the session is a new one.
 pub fn receive<C: Channel, A: Allocator>(
     lines: &mut LineChannel<C, A>,
     session: &mut Session<'_>,

@@ -2,7 +2,7 @@
 
 ghost use Rattle.std.specs.Prelude.{◌↔◌, ◌≡◌, IfOk, IsTrue, OnErr, OnOk, length, map};
 ghost use Rattle.ascii.specs.View.{text_of};
-ghost use Rattle.ascii_lines.specs.Serve.{IsRequest, Says, line_reply};
+ghost use Rattle.ascii_lines.specs.Replies.{IsRequest, Says, line_reply};
 ghost use Rattle.example_smtp.specs.Mail.{Unstuffs};
 ghost use Rattle.example_smtp.specs.Mailbox.{Stores};
 ghost use Rattle.example_smtp.specs.Session.{Fits, IsAllowed, next_after, refusal_of};

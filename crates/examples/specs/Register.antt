@@ -1,6 +1,6 @@
 -- What a register answers.
 use Rattle.std.specs.Prelude.{◌≡◌, ◌≢◌, ◌⊎◌, ℕ, List, [], ◌∷◌, codes}
-use Rattle.ascii_lines.specs.Serve.{Reply, line_reply}
+use Rattle.ascii_lines.specs.Replies.{Reply, line_reply}
 use Rattle.ascii_lines.specs.declared.serving.Next.{Next}
 use Rattle.ascii_lines.specs.declared.serving.Next.TheVariants.{Line, Close}
 use Rattle.examples.specs.declared.register.Reply as register

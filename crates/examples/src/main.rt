@@ -1,6 +1,7 @@
 //! `examples NAME`: runs the example NAME over the standard streams. Each other file of this folder is a whole program.
 #![tactic(auto)]
 
+mod events;
 mod head;
 mod host;
 mod ini;
@@ -19,6 +20,7 @@ fn main(rt: HostRuntime) -> io::Result<ExitCode> {
     let mut name = [0; 16];
     let length = rt.arg(1, &mut name).unwrap_or(0);
     match &name[..length] {
+        b"events" => events::main(rt)?,
         b"head" => head::main(rt)?,
         b"host" => host::main(rt)?,
         b"ini" => ini::main(rt)?,
@@ -28,7 +30,7 @@ fn main(rt: HostRuntime) -> io::Result<ExitCode> {
         b"pager" => pager::main(rt)?,
         b"register" => register::main(rt)?,
         _ => {
-            eprintln!(rt; "usage: examples head|host|ini|keys|lines|nmea|pager|register")?;
+            eprintln!(rt; "usage: examples events|head|host|ini|keys|lines|nmea|pager|register")?;
             return Ok(ExitCode::from(64));
         }
     }

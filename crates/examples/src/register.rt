@@ -4,7 +4,7 @@
 
 ghost use Rattle.std.specs.Prelude.{◌≡◌, [], ◌∷◌};
 ghost use Rattle.ascii.specs.View.{text_of};
-ghost use Rattle.ascii_lines.specs.Serve.{IsRequest, Says, line_reply};
+ghost use Rattle.ascii_lines.specs.Replies.{IsRequest, Says, line_reply};
 ghost use Rattle.examples.specs.Register.{Answers, replies_to};
 
 use ascii::{AsciiStr, AsciiString};

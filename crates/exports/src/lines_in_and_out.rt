@@ -1,6 +1,6 @@
 //! Lines that are read, written and answered, over devices that give and take little or fail.
 
-ghost use Rattle.ascii_lines.specs.Serve.{IsRequest};
+ghost use Rattle.ascii_lines.specs.Replies.{IsRequest};
 
 use crate::answer::{Answer, NOTHING, Put};
 use crate::devices::{Device, Given, Taken};

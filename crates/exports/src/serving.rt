@@ -1,12 +1,13 @@
 //! A conversation with a handler of a few words.
 
-ghost use Rattle.ascii_lines.specs.Serve.{IsRequest};
+ghost use Rattle.ascii_lines.specs.Replies.{IsRequest};
 
 use crate::answer::{Answer, NOTHING, Put};
 use crate::devices::{Device, Given, Taken};
 use ascii::{AsciiStr, text};
 use ascii_lines::{
-    Duplex, Ending, Endings, Handler, LineChannel, LineError, Next, Replies, Sink, Stop, serve,
+    Conversation, Duplex, Ending, Endings, Handler, LineChannel, LineError, LineWriter, Next, Output, Replies, Sink, Stop,
+    serve,
 };
 use std::alloc::{AllocError, Allocator, Global};
 
@@ -21,11 +22,7 @@ pub fn ask_served(
     writes: &Device,
     answer: &mut Answer,
 ) {
-    let endings = match endings {
-        0 => Endings::Any,
-        1 => Endings::CrLf,
-        _ => Endings::CrLfStrict,
-    };
+    let endings = endings_by(endings);
     let device = Duplex::new(Given::new(source, *reads), Taken::new(alloc, *writes));
     let Ok(mut lines) = LineChannel::new(alloc, device, size, endings, Ending::CrLf) else {
         return answer.put(AllocError);
@@ -34,6 +31,70 @@ pub fn ask_served(
     answer.put(serve(&mut lines, &mut words));
     let (input, output) = lines.into_device().into_parts();
     answer.put((words.count, input.into_inner().calls, output.into_inner()));
+}
+
+/// Why a conversation without a device is over, the number of calls of the handler that answered, the position, and the
+/// replies. It is fed with an input in pieces of these lengths, and then with the other bytes; after them the source ends,
+/// or fails.
+pub fn ask_fed(
+    alloc: Global,
+    endings: u8,
+    size: usize,
+    source: &[u8],
+    lengths: &[u8],
+    fails: u8,
+    answer: &mut Answer,
+) {
+    let Ok(mut talk) = Conversation::new(alloc, size, endings_by(endings)) else {
+        return answer.put(AllocError);
+    };
+    let Ok(writer) = LineWriter::new(alloc, Output::new(Vec::new(alloc)), 64) else {
+        return answer.put(AllocError);
+    };
+    let mut replies = Replies::new(writer, Ending::CrLf);
+    let mut words = Words { count: 0 };
+    let mut left = source;
+    'pieces: for length in lengths {
+        let (piece, others) = left.split_at((*length as usize).min(left.len()));
+        feed_whole(&mut talk, &mut words, piece, &mut replies);
+        left = others;
+    }
+    feed_whole(&mut talk, &mut words, left, &mut replies);
+    if fails == 0 {
+        talk.end(&mut words, &mut replies);
+    } else {
+        talk.fail(&mut words, &mut replies);
+    }
+    answer.put(talk.stop().unwrap_or(Stop::Closed));
+    let _ = replies.flush();
+    let written = replies.into_writer().into_sink().into_inner();
+    answer.put((words.count, talk.position(), written.as_slice()));
+}
+
+/// Feeds a conversation with a piece of an input until it has taken all bytes, or is over.
+fn feed_whole<K: Sink, A: Allocator, B: Allocator>(
+    talk: &mut Conversation<A>,
+    words: &mut Words,
+    piece: &[u8],
+    replies: &mut Replies<K, B>,
+) {
+    let mut left = piece;
+    'feeds: for _ in 0..piece.len() {
+        if left.is_empty() || talk.is_closed() {
+            return;
+        }
+        let n = talk.feed(words, left, replies);
+        left = &left[n..];
+    }
+}
+
+/// Endings by their number.
+fn endings_by(number: u8) -> Endings {
+    match number {
+        0 => Endings::Any,
+        1 => Endings::CrLf,
+        _ => Endings::CrLfStrict,
+    }
 }
 
 impl Put for Stop {

@@ -1,7 +1,7 @@
 -- The replies of a lamp in a whole conversation.
 use Rattle.std.proofs.Common.{◌≡◌, ◌∙◌, ◌++◌, List, [], ◌∷◌, Bool, ap, codes, refl}
 use Rattle.ascii_lines.specs.Exchanges.{Runs, given_in, said_in}
-use Rattle.ascii_lines.specs.Serve.{Reply, Step, line_reply, rejected, skipped, took}
+use Rattle.ascii_lines.specs.Replies.{Reply, Step, line_reply, rejected, skipped, took}
 use Rattle.tests_callers.specs.Servers.{LampAnswers, LampRefuses, lamp_replies, reply_line, reply_to}
 use Rattle.tests_callers.specs.declared.servers.Lamp.{Lamp}
 

@@ -4,7 +4,8 @@ use Rattle.std.specs.Str.{bytes_eq}
 use Rattle.std.specs.declared.option.Option.{Option}
 use Rattle.ascii.specs.Lines.{Line}
 use Rattle.ascii_lines.specs.Exchanges.{given_in, said_in}
-use Rattle.ascii_lines.specs.Serve.{ChannelState, Reply, Serves, line_reply}
+use Rattle.ascii_lines.specs.Replies.{Reply, line_reply}
+use Rattle.ascii_lines.specs.Serve.{ChannelState, Serves}
 use Rattle.ascii_lines.specs.declared.line_reader.LineError.{LineError}
 use Rattle.ascii_lines.specs.declared.serving.Next.{Next}
 use Rattle.ascii_lines.specs.declared.serving.Next.TheVariants as next

@@ -1,16 +1,20 @@
 //! Callers of a server: an echo, and a lamp of three verbs.
 
-ghost use Rattle.std.specs.Prelude.{◌≡◌, ◌++◌, ◌∷◌, [], IfOk, List};
+ghost use Rattle.std.specs.Prelude.{◌≡◌, ◌++◌, ◌∷◌, [], IfOk, List, true};
 ghost use Rattle.std.specs.List.{flat_map};
 ghost use Rattle.ascii.specs.Lines.{Line, LinesOf};
 ghost use Rattle.ascii.specs.View.{text_of};
-ghost use Rattle.ascii_lines.specs.Exchanges.{RepliesToAll};
-ghost use Rattle.ascii_lines.specs.Serve.{IsUp, Says, line_reply};
+ghost use Rattle.ascii_lines.specs.Serve.{RepliesToAll};
+ghost use Rattle.ascii_lines.specs.Replies.{Says, line_reply};
+ghost use Rattle.ascii_lines.specs.Exchanges.{said_in};
+ghost use Rattle.ascii_lines.specs.Replies.{Step};
+ghost use Rattle.ascii_lines.specs.Serve.{IsUp};
+ghost use Rattle.ascii_lines.specs.Turns.{Turns, place_of, place_with};
 ghost use Rattle.tests_callers.specs.Servers.{ServesLamp, echo_reply, lit_after, reply_line, reply_to};
 
 use ascii_lines::{
-    AsciiStr, Channel, Duplex, Ending, Endings, Handler, LineChannel, LineError, Next, Replies,
-    Sink, Stop, serve,
+    AsciiStr, Channel, Conversation, Duplex, Ending, Endings, Handler, LineChannel, LineError, Next, Replies,
+    Sink, Stop, Supply, serve,
 };
 use std::alloc::{AllocError, Allocator, Global};
 
@@ -191,4 +195,25 @@ pub fn serve_lamp<C: Channel, A: Allocator>(lines: &mut LineChannel<C, A>, lamp:
     ensures { ServesLamp lines.old.state lamp.old result lines.new.state lamp.new }
 {
     serve(lines, lamp)
+}
+
+/// Feeds a conversation with two pieces of an input, and returns whether both were taken whole. Then the steps are those of
+/// both pieces together.
+pub fn feed_two<H: Handler, K: Sink, A: Allocator, B: Allocator>(
+    talk: &mut Conversation<A>,
+    handler: &mut H,
+    first: &[u8],
+    second: &[u8],
+    replies: &mut Replies<K, B>,
+) -> bool
+    ensures { result ≡ true → (steps : List Step) × Turns H.answers H.refuses talk.old.endings
+        talk.old.size Supply.Open (place_with talk.old handler.old (first.now ++ second.now)) steps
+        (place_of talk.new handler.new) × Says replies.old (said_in steps) replies.new }
+{
+    let n = talk.feed(handler, first, replies);
+    if n < first.len() {
+        return false;
+    }
+    let m = talk.feed(handler, second, replies);
+    m == second.len()
 }

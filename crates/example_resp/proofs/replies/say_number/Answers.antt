@@ -1,6 +1,6 @@
 use Rattle.std.proofs.Common.{[], ◌∷◌, decimal, subst, ◌∙◌}
 use Rattle.ascii.specs.View.{text_of}
-use Rattle.ascii_lines.specs.Serve.{Says, line_reply}
+use Rattle.ascii_lines.specs.Replies.{Says, line_reply}
 use Rattle.ascii_lines.proofs.ReplyLemmas.{said_joined}
 use Rattle.example_resp.proofs.replies.say_number.Goals as goal
 

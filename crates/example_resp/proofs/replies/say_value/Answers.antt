@@ -2,7 +2,7 @@ use Rattle.std.proofs.Common.{[], ◌∷◌, ◌++◌, codes, decimal, length, m
 use Rattle.std.specs.Option.{option_map}
 use Rattle.ascii.specs.View.{text_of}
 use Rattle.ascii.specs.declared.ascii_str.AsciiStr.{AsciiStr}
-use Rattle.ascii_lines.specs.Serve.{Says, line_reply}
+use Rattle.ascii_lines.specs.Replies.{Says, line_reply}
 use Rattle.ascii_lines.proofs.ReplyLemmas.{Says-trans}
 use Rattle.example_resp.specs.Commands.{value_reply}
 use Rattle.example_resp.proofs.replies.say_value.Goals as goal

@@ -1,6 +1,5 @@
 use Rattle.std.proofs.Common.{List, map, subst, sym}
-use Rattle.ascii_lines.specs.declared.serving.Awaited.TheVariants.{Input}
-use Rattle.ascii_lines.specs.declared.serving.Next.TheVariants as next
+use Rattle.ascii_lines.specs.Turns.{place_of}
 use Rattle.example_smtp.specs.Deliveries.{Delivers}
 use Rattle.example_smtp.specs.Mail.{Mail}
 use Rattle.example_smtp.specs.Mailbox.{Files}
@@ -10,8 +9,8 @@ use Rattle.example_smtp.proofs.receiving.receive.Goals as goal
 pub returns : goal.returns
 returns g c =
     let served = c.serve.ensures.serves in
-    let told = transcript _ c.args.session.now served.talk.state (Input next.Line)
-    served.talk.awaited served.talk.steps served.talk.talks in
+    let told = transcript _ _ _ _ (place_of c.serve.new.lines.state.talk c.serve.new.handler)
+    served.talk.steps served.talk.turns in
     record {
       served = served;
       exchanges = told.exchanges;
@@ -25,7 +24,7 @@ returns g c =
           told.runs);
       files = subst
           (λ (received : List Mail). Files c.args.session.now.folder
-          (map (λ (mail : Mail). mail.text) received) served.talk.state.folder) (sym told.kept)
+          (map (λ (mail : Mail). mail.text) received) c.serve.new.handler.folder) (sym told.kept)
           (subst
           (λ folder. Files c.args.session.now.folder (map (λ (mail : Mail). mail.text) told.mid.received)
           folder) (sym told.folder)

@@ -8,6 +8,6 @@ returns g c =
     let served = c.serve.ensures.serves in
     record {
       served = served;
-      replies = lamp_runs c.args.lamp.now served.talk.state served.talk.steps
+      replies = lamp_runs c.args.lamp.now c.serve.new.handler served.talk.steps
           (talk_runs LampAnswers LampRefuses served.talk);
     }

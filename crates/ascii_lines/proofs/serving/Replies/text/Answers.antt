@@ -1,6 +1,6 @@
 use Rattle.std.proofs.Common.{[], ◌∷◌, subst}
 use Rattle.ascii.specs.View.{text_of}
-use Rattle.ascii_lines.specs.Serve.{Says, line_reply}
+use Rattle.ascii_lines.specs.Replies.{Says, line_reply}
 use Rattle.ascii_lines.proofs.ReplyLemmas.{said_text}
 use Rattle.ascii_lines.proofs.serving.Replies.text.Goals as goal
 

@@ -1,0 +1,95 @@
+use Rattle.std.proofs.Common.{rules, ◌≡◌, ◌⊎◌, ◌+◌, ◌++◌, length-append, ap, arith, inl, inr, drop, length, subst, take, ◌∙◌}
+use Rattle.std.specs.List.{slice_range}
+use Rattle.std.proofs.lemmas.List.{length-take-le, take_at}
+use Rattle.ascii_lines.specs.LineBuffer.{IsLaidOut, WindowState}
+use Rattle.ascii_lines.proofs.LineBufferLemmas.{held_more, refilled, refilled_other}
+use Rattle.ascii_lines.proofs.line_buffer.LineBuffer.put.Goals as goal
+use Rattle.ascii_lines.proofs.line_buffer.LineBuffer.put.Goals.{then-self, else-self}
+
+pub invariant_of-self : goal.invariant_of-self
+invariant_of-self g c =
+    let i = c.self.inside in
+    let new = c.copy_behind-n.new.bytes in
+    let back : take i.bytes.len (new ++ drop (length new) i.bytes.items) ≡ new =
+    take_at new _ i.bytes.len (c.copy_behind-n.ensures.len ∙ c.deref_mut.ensures.len) in
+    let front : take i.filled new ≡ take i.filled i.bytes.items =
+    c.copy_behind-n.ensures.front ∙ ap (take i.filled) c.deref_mut.ensures.value in
+    let same : length new ≡ length i.bytes.items =
+    c.copy_behind-n.ensures.len ∙ ap length c.deref_mut.ensures.value in
+    elim c.if-self.branch [
+      | then-self w ↦
+          let all : i.checked ≡ i.filled = search in
+          rw (w.self-inside-is, back)
+          (refilled i.bytes.items new i.filled front i.size i.given i.from c.copy_behind-n.result
+          w.ascii_len.result
+          (subst (λ k. IsLaidOut i.size i.bytes.items i.given i.from k i.filled) all
+          c.self.invariant) same c.copy_behind-n.ensures.within.1
+          (rw (w.deref.ensures.value, back) at w.ascii_len.ensures))
+      | else-self w ↦
+          rw (w.self-inside-is, back)
+          (refilled_other i.bytes.items new i.filled front i.size i.given i.from i.checked
+          c.copy_behind-n.result c.self.invariant (omega
+          (arith, c.self.invariant.then_checked, w.if-self.false)) same
+          c.copy_behind-n.ensures.within.1)
+    ]
+
+pub returns : goal.returns
+returns g c =
+    let i = c.self.inside in
+    let n = c.copy_behind-n.result in
+    let new = c.copy_behind-n.new.bytes in
+    let laid = c.self.invariant in
+    let back : take i.bytes.len (new ++ drop (length new) i.bytes.items) ≡ new =
+    take_at new _ i.bytes.len (c.copy_behind-n.ensures.len ∙ c.deref_mut.ensures.len) in
+    let front : take i.filled new ≡ take i.filled i.bytes.items =
+    c.copy_behind-n.ensures.front ∙ ap (take i.filled) c.deref_mut.ensures.value in
+    let held : slice_range new i.from (i.filled + n) ≡ c.args.self.now.held ++ take n c.args.bytes.now =
+    held_more i.bytes.items new i.filled front i.from n
+    (omega (arith, laid.then_from, laid.then_checked))
+    ∙ (ap (λ xs. xs ++ slice_range new i.filled (i.filled + n))
+    (ap (λ (w : WindowState). w.held) c.self.view_is ∙ c.move_to_front.ensures.held)
+    ∙ ap (λ xs. c.args.self.now.held ++ xs) c.copy_behind-n.ensures.copied) in
+    let most : (n ≡ length c.args.bytes.now)
+    ⊎ (length (slice_range new i.from (i.filled + n)) ≡ c.args.self.now.room) =
+    elim c.copy_behind-n.ensures.most [
+      | inl all ↦ inl all
+      | inr full ↦ inr (omega (
+        arith,
+        full,
+        ap length held,
+        length-append c.args.self.now.held (take n c.args.bytes.now),
+        length-take-le n c.args.bytes.now c.copy_behind-n.ensures.within.0,
+        c.copy_behind-n.ensures.len ∙ c.deref_mut.ensures.len,
+        ap (λ (w : WindowState). w.spare) c.self.view_is,
+        c.move_to_front.ensures.spare,
+        ap length c.move_to_front.ensures.held,
+        c.move_to_front.ensures.room,
+      ))
+    ] in
+    record {
+      within = c.copy_behind-n.ensures.within.0;
+      held = elim c.if-self.branch [
+        | then-self w ↦ rw (w.self-inside-is, back) held
+        | else-self w ↦ rw (w.self-inside-is, back) held
+      ];
+      most = elim c.if-self.branch [
+        | then-self w ↦ rw (w.self-inside-is, back) most
+        | else-self w ↦ rw (w.self-inside-is, back) most
+      ];
+      roomy = omega (
+        arith,
+        laid.roomy,
+        ap (λ (w : WindowState). w.size) c.self.view_is,
+        c.move_to_front.ensures.size,
+        ap (λ (w : WindowState). w.room) c.self.view_is,
+        c.move_to_front.ensures.room,
+      );
+      two = omega (
+        arith,
+        laid.two,
+        ap (λ (w : WindowState). w.room) c.self.view_is,
+        c.move_to_front.ensures.room,
+      );
+      size = search rules;
+      at_end = search rules;
+    }

@@ -1,0 +1,599 @@
+//! A conversation without a device: bytes are fed as they come, and the replies go to any sink.
+//!
+//! `feed` takes bytes that came and carries out every step that they complete: the handler answers each line, or each
+//! part that it has asked for, and is told of each error in their place. At the end of the input a caller calls `end`,
+//! or `fail` if the source has failed. The caller reads and writes: so an event loop can drive the conversation.
+//!
+//! | When | Call |
+//! |---|---|
+//! | bytes came | `feed`, again with the bytes that it did not take |
+//! | the input has ended, or its source has failed | `end`, `fail` |
+//! | the replies were sent | `is_closed`, and `stop` for the reason |
+//!
+//! How the bytes are cut changes nothing: feeding one piece and then another is feeding both together. A contract speaks
+//! of the bytes that were fed, of what is awaited, and of the replies; no call has a condition. `serve` is a loop over a
+//! conversation, for a device of both directions.
+
+ghost use Rattle.std.specs.Prelude.{◌≡◌, ◌≢◌, ◌⊎◌, ◌<◌, ◌≤◌, ◌++◌, ◌↔◌, [], IfOk, IsTrue, length, take, true};
+ghost use Rattle.ascii.specs.Endings.{any_text};
+ghost use Rattle.ascii_lines.specs.LineReader.{FindsEnd};
+ghost use Rattle.ascii_lines.specs.Turns.{GoesTo, IsLookedFor, IsOver, Looks, SkipsIn};
+ghost use Rattle.ascii_lines.specs.Turns.{awaited_by, fresh_talk, window_at};
+
+use crate::line_buffer::LineBuffer;
+use crate::line_reader::LineError;
+use crate::serving::{Handler, Next, Replies, Stop, input_at};
+use crate::skipping::{PassEnd, is_final, part_of_line, whole_endings};
+use crate::wanted::{Wanted, end_of, find, may_fit, refusal};
+use ascii::iter::Endings;
+use ascii_devices::{Channel, Sink};
+use std::alloc::{AllocError, Allocator, Global};
+use std::marker::Model;
+
+/// What a conversation awaits. No call takes or returns it: contracts of conversations and servers speak of it.
+#[derive(Clone, Copy, PartialEq, Eq, Debug)]
+pub enum Awaited {
+    /// What the handler has asked for.
+    Input(Next),
+    /// The end of a line that was rejected, and then what the handler has asked for.
+    LineEnd(Next),
+    /// Nothing: the conversation is over, for this reason.
+    Nothing(Stop),
+}
+
+/// Whether more bytes of an input can come. No call takes or returns it: contracts speak of it.
+#[derive(Clone, Copy, PartialEq, Eq, Debug)]
+pub enum Supply {
+    /// More bytes can come.
+    Open,
+    /// The input has ended.
+    Ended,
+    /// The source of the input has failed.
+    Failed,
+}
+
+/// A conversation of which the bytes come as they come.
+#[derive(Drop)]
+pub struct Conversation<A: Allocator = Global> {
+    dialogue: Dialogue<A>,
+}
+
+impl<A: Allocator> Model for Conversation<A> {
+    ghost use Rattle.ascii_lines.specs.Turns.{Rests, TalkState};
+
+    ghost Value = { TalkState };
+
+    ghost view = { λ c. record {
+      size = c.dialogue.buffer.size;
+      endings = c.dialogue.endings;
+      awaited = c.dialogue.awaited;
+      start = c.dialogue.start;
+      held = c.dialogue.buffer.held;
+      is_at_end = c.dialogue.buffer.is_at_end;
+    } };
+
+    ghost invariant = { λ c. Rests c.dialogue.endings c.dialogue.buffer.size c.dialogue.awaited
+        c.dialogue.start c.dialogue.buffer.held };
+}
+
+impl Conversation {
+    /// Creates a conversation that awaits a line by these endings, with a buffer of `size` bytes, or returns an error
+    /// if the allocation fails. No later call allocates.
+    ///
+    ///     let talk = Conversation::new(alloc, 64, Endings::Any)?;
+    ///     talk.position() // 0
+    ///     talk.is_closed() // false
+    pub fn new(alloc: Global, size: usize, endings: Endings) -> Result<Conversation, AllocError>
+        ensures { IfOk result (λ talk. talk ≡ fresh_talk size endings) }
+    {
+        Ok(Conversation {
+            dialogue: Dialogue {
+                buffer: LineBuffer::new(alloc, size)?,
+                endings,
+                start: 0,
+                awaited: Awaited::Input(Next::Line),
+            },
+        })
+    }
+}
+
+impl<A: Allocator> Conversation<A> {
+    ghost use Rattle.std.specs.Prelude.{false};
+    ghost use Rattle.ascii_lines.specs.Serve.{ReadsOn};
+    ghost use Rattle.ascii_lines.specs.Turns.{Converses, place_of, place_with, stop_of, supply_at};
+
+    /// Takes bytes that came, as many as there is room for, and carries out every step that they complete. Returns
+    /// the number of bytes that were taken: at least one, unless there are none or the conversation is over.
+    ///
+    /// The caller feeds the other bytes in a later call. A conversation that is over takes none. If the sink of the
+    /// replies fails, the handler is not asked again, and the conversation is over.
+    ///
+    /// In the examples, `Echo` is a handler that replies with the text that it is handed, and to an error with `no`.
+    ///
+    ///     let mut talk = Conversation::new(alloc, 64, Endings::Any)?;
+    ///     let writer = LineWriter::new(alloc, Output::new(Vec::new(alloc)), 64)?;
+    ///     let mut replies = Replies::new(writer, Ending::Lf);
+    ///     talk.feed(&mut Echo, b"ab\nc", &mut replies) // 4
+    ///     talk.position() // 3
+    ///     let mut writer = replies.into_writer();
+    ///     writer.flush() // Ok(())
+    ///     writer.into_sink().into_inner() // [97, 98, 10]
+    pub fn feed<H: Handler, K: Sink, B: Allocator>(
+        &mut self,
+        handler: &mut H,
+        bytes: &[u8],
+        replies: &mut Replies<K, B>,
+    ) -> usize
+        ensures within { result ≤ length bytes.now }
+        ensures some { 0 < length bytes.now → IsOver self.old.awaited ⊎ (0 < result) }
+        ensures most { IsOver self.old.awaited ⊎ (result ≡ length bytes.now)
+            ⊎ (self.old.size < length (self.old.held ++ take result bytes.now)) }
+        ensures converses { Converses H.answers H.refuses self.old.endings self.old.size
+            Supply.Open (place_with self.old handler.old (take result bytes.now)) replies.old
+            (place_of self.new handler.new) replies.new }
+        ensures size { self.new.size ≡ self.old.size }
+        ensures endings { self.new.endings ≡ self.old.endings }
+        ensures at_end { self.new.is_at_end ≡ self.old.is_at_end }
+    {
+        if self.is_closed() {
+            return 0;
+        }
+        let searched = self.dialogue.buffer.len();
+        let n = self.dialogue.buffer.put(bytes);
+        self.dialogue
+            .converse(handler, replies, Supply::Open, searched);
+        n
+    }
+
+    /// Carries out the steps of the end of the input: the handler answers the bytes that are held as a line without an
+    /// ending, or is told of an error in place of what it asked for. Then the conversation is over.
+    ///
+    ///     let mut talk = Conversation::new(alloc, 64, Endings::Any)?;
+    ///     let writer = LineWriter::new(alloc, Output::new(Vec::new(alloc)), 64)?;
+    ///     let mut replies = Replies::new(writer, Ending::Lf);
+    ///     talk.feed(&mut Echo, b"ab", &mut replies) // 2
+    ///     talk.end(&mut Echo, &mut replies);
+    ///     talk.stop() // Some(EndOfInput)
+    ///     let mut writer = replies.into_writer();
+    ///     writer.flush() // Ok(())
+    ///     writer.into_sink().into_inner() // [97, 98, 10]
+    pub fn end<H: Handler, K: Sink, B: Allocator>(
+        &mut self,
+        handler: &mut H,
+        replies: &mut Replies<K, B>,
+    )
+        ensures converses { Converses H.answers H.refuses self.old.endings self.old.size
+            Supply.Ended (place_of self.old handler.old) replies.old
+            (place_of self.new handler.new) replies.new }
+        ensures size { self.new.size ≡ self.old.size }
+        ensures endings { self.new.endings ≡ self.old.endings }
+        ensures at_end { self.new.is_at_end ≡ self.old.is_at_end }
+    {
+        let searched = self.dialogue.buffer.len();
+        self.dialogue
+            .converse(handler, replies, Supply::Ended, searched);
+    }
+
+    /// Tells the handler that the source of the input has failed, by the error `Read`, in place of what it asked for.
+    /// Then the conversation is over. In the rest of a line that was rejected, the handler is not told.
+    ///
+    ///     let mut talk = Conversation::new(alloc, 64, Endings::Any)?;
+    ///     let writer = LineWriter::new(alloc, Output::new(Vec::new(alloc)), 64)?;
+    ///     let mut replies = Replies::new(writer, Ending::Lf);
+    ///     talk.fail(&mut Echo, &mut replies);
+    ///     talk.stop() // Some(Reader(Read))
+    pub fn fail<H: Handler, K: Sink, B: Allocator>(
+        &mut self,
+        handler: &mut H,
+        replies: &mut Replies<K, B>,
+    )
+        ensures converses { Converses H.answers H.refuses self.old.endings self.old.size
+            Supply.Failed (place_of self.old handler.old) replies.old
+            (place_of self.new handler.new) replies.new }
+        ensures size { self.new.size ≡ self.old.size }
+        ensures endings { self.new.endings ≡ self.old.endings }
+        ensures at_end { self.new.is_at_end ≡ self.old.is_at_end }
+    {
+        self.dialogue.fail(handler, replies);
+    }
+
+    /// Awaits a line, whatever was awaited before, and carries out every step that the bytes that are held complete.
+    pub(crate) fn resume<H: Handler, K: Sink, B: Allocator>(
+        &mut self,
+        handler: &mut H,
+        replies: &mut Replies<K, B>,
+    )
+        ensures converses { Converses H.answers H.refuses self.old.endings self.old.size
+            (supply_at self.old.is_at_end)
+            (place_of (record self.old { awaited = Awaited.Input Next.Line }) handler.old)
+            replies.old (place_of self.new handler.new) replies.new }
+        ensures size { self.new.size ≡ self.old.size }
+        ensures endings { self.new.endings ≡ self.old.endings }
+        ensures at_end { self.new.is_at_end ≡ self.old.is_at_end }
+    {
+        self.dialogue.awaited = Awaited::Input(Next::Line);
+        let supply = self.dialogue.supply();
+        self.dialogue.converse(handler, replies, supply, 0);
+    }
+
+    /// Reads the device of the replies once, and carries out every step that the bytes complete.
+    pub(crate) fn read<H: Handler, C: Channel, B: Allocator>(
+        &mut self,
+        handler: &mut H,
+        replies: &mut Replies<C, B>,
+    )
+        requires going { ¬ (IsOver self.old.awaited) }
+        requires more { self.old.is_at_end ≡ false }
+        ensures { ReadsOn H.answers H.refuses self.old handler.old replies.old self.new handler.new
+            replies.new }
+    {
+        let searched = self.dialogue.buffer.len();
+        match replies.fill(&mut self.dialogue.buffer) {
+            Ok(()) => {
+                let supply = self.dialogue.supply();
+                self.dialogue.converse(handler, replies, supply, searched);
+            }
+            Err(_) => self.dialogue.fail(handler, replies),
+        }
+    }
+
+    /// Returns `true` if the conversation is over.
+    ///
+    ///     let talk = Conversation::new(alloc, 64, Endings::Any)?;
+    ///     talk.is_closed() // false
+    pub fn is_closed(&self) -> bool
+        ensures { IsTrue result ↔ IsOver self.now.awaited }
+    {
+        self.dialogue.is_over()
+    }
+
+    /// Returns why the conversation is over, or `None` if it is not.
+    ///
+    ///     let talk = Conversation::new(alloc, 64, Endings::Any)?;
+    ///     talk.stop() // None
+    pub fn stop(&self) -> Option<Stop>
+        ensures { result ≡ stop_of self.now.awaited }
+    {
+        match self.dialogue.awaited {
+            Awaited::Nothing(stop) => Some(stop),
+            Awaited::Input(_) | Awaited::LineEnd(_) => None,
+        }
+    }
+
+    /// Returns the position in the input at which the next line or part starts, counted from 0. After an error it is
+    /// that of the line or part at fault; after an error in the rest of a line that was rejected, the one after the
+    /// bytes of it that were skipped.
+    ///
+    ///     let talk = Conversation::new(alloc, 64, Endings::Any)?;
+    ///     talk.position() // 0
+    pub fn position(&self) -> u64
+        ensures { result ≡ self.now.start }
+    {
+        self.dialogue.start
+    }
+}
+
+/// Where a conversation is, also between its steps.
+#[derive(Drop)]
+struct Dialogue<A: Allocator> {
+    buffer: LineBuffer<A>,
+    endings: Endings,
+    // Where the bytes that are held start in the input.
+    start: u64,
+    awaited: Awaited,
+}
+
+impl<A: Allocator> Dialogue<A> {
+    ghost use Rattle.ascii_lines.specs.Serve.{IsUnread};
+    ghost use Rattle.ascii_lines.specs.Turns.{Converses, Finds, IsRequested, IsSearchedFor, Rests};
+    ghost use Rattle.ascii_lines.specs.Turns.{SkipTurn, TurnOutcome, Wants, place_at, supply_at};
+
+    /// Whether nothing is awaited.
+    fn is_over(&self) -> bool
+        ensures { IsTrue result ↔ IsOver self.now.awaited }
+    {
+        matches!(self.awaited, Awaited::Nothing(_))
+    }
+
+    /// Whether more bytes can come: they cannot once a read has returned none.
+    fn supply(&self) -> Supply
+        ensures { result ≡ supply_at self.now.buffer.is_at_end }
+    {
+        if self.buffer.is_at_end() {
+            Supply::Ended
+        } else {
+            Supply::Open
+        }
+    }
+
+    /// Tells the handler that the source has failed, if it awaits an input.
+    fn fail<H: Handler, K: Sink, B: Allocator>(
+        &mut self,
+        handler: &mut H,
+        replies: &mut Replies<K, B>,
+    )
+        requires { Rests self.old.endings self.old.buffer.size self.old.awaited self.old.start
+            self.old.buffer.held }
+        ensures converses { Converses H.answers H.refuses self.old.endings self.old.buffer.size
+            Supply.Failed
+            (place_at self.old.awaited handler.old self.old.start self.old.buffer.held)
+            replies.old
+            (place_at self.new.awaited handler.new self.new.start self.new.buffer.held)
+            replies.new }
+        ensures unread { IsOver self.old.awaited
+            ⊎ ((why : Stop) × (self.new.awaited ≡ Awaited.Nothing why) × IsUnread why) }
+        ensures buffer { self.new.buffer ≡ self.old.buffer }
+        ensures endings { self.new.endings ≡ self.old.endings }
+    {
+        if self.is_over() {
+            return;
+        }
+        if replies.is_broken() {
+            self.awaited = Awaited::Nothing(Stop::Writer);
+            return;
+        }
+        match self.awaited {
+            Awaited::Input(_) => {
+                let _next = handler.refuse(LineError::Read, replies);
+                self.awaited = Awaited::Nothing(Stop::Reader(LineError::Read));
+            }
+            Awaited::LineEnd(_) => self.awaited = Awaited::Nothing(Stop::Reader(LineError::Read)),
+            Awaited::Nothing(_) => {}
+        }
+    }
+
+    /// Takes all steps that can be taken. The first `searched` bytes were searched.
+    fn converse<H: Handler, K: Sink, B: Allocator>(
+        &mut self,
+        handler: &mut H,
+        replies: &mut Replies<K, B>,
+        supply: Supply,
+        searched: usize,
+    )
+        requires request { IsRequested self.old.awaited }
+        requires used { self.old.awaited ≡ Awaited.Nothing Stop.EndOfInput → self.old.buffer.held ≡ [] }
+        requires searched { ¬ (IsOver self.old.awaited) → IsSearchedFor self.old.endings
+            self.old.buffer.size self.old.awaited self.old.start self.old.buffer.held searched }
+        ensures converses { Converses H.answers H.refuses self.old.endings self.old.buffer.size
+            supply (place_at self.old.awaited handler.old self.old.start self.old.buffer.held)
+            replies.old
+            (place_at self.new.awaited handler.new self.new.start self.new.buffer.held)
+            replies.new }
+        ensures size { self.new.buffer.size ≡ self.old.buffer.size }
+        ensures endings { self.new.endings ≡ self.old.endings }
+        ensures at_end { self.new.buffer.is_at_end ≡ self.old.buffer.is_at_end }
+    {
+        let mut searched = searched;
+        'turns: loop {
+            if self.is_over() {
+                return;
+            }
+            if replies.is_broken() {
+                self.awaited = Awaited::Nothing(Stop::Writer);
+                return;
+            }
+            if !self.turn(handler, replies, supply, searched) {
+                return;
+            }
+            searched = 0;
+        }
+    }
+
+    /// Takes a step, if one can be taken.
+    fn turn<H: Handler, K: Sink, B: Allocator>(
+        &mut self,
+        handler: &mut H,
+        replies: &mut Replies<K, B>,
+        supply: Supply,
+        searched: usize,
+    ) -> bool
+        requires request { IsRequested self.old.awaited }
+        requires going { ¬ (IsOver self.old.awaited) }
+        requires searched { IsSearchedFor self.old.endings self.old.buffer.size self.old.awaited
+            self.old.start self.old.buffer.held searched }
+        ensures turn { TurnOutcome H.answers H.refuses self.old.endings self.old.buffer.size supply
+            (place_at self.old.awaited handler.old self.old.start self.old.buffer.held) replies.old
+            result (place_at self.new.awaited handler.new self.new.start self.new.buffer.held)
+            replies.new }
+        ensures size { self.new.buffer.size ≡ self.old.buffer.size }
+        ensures endings { self.new.endings ≡ self.old.endings }
+        ensures at_end { self.new.buffer.is_at_end ≡ self.old.buffer.is_at_end }
+    {
+        match self.awaited {
+            Awaited::Input(Next::Line) => {
+                if supply == Supply::Ended && self.buffer.len() == 0 {
+                    self.awaited = Awaited::Nothing(Stop::EndOfInput);
+                    return true;
+                }
+                let wanted = Wanted::Line(self.endings);
+                self.input(handler, replies, Next::Line, wanted, supply, searched)
+            }
+            Awaited::Input(Next::Part(n)) => {
+                self.input(
+                    handler,
+                    replies,
+                    Next::Part(n),
+                    Wanted::Part(n),
+                    supply,
+                    searched,
+                )
+            }
+            Awaited::LineEnd(next) => self.skip(next, supply),
+            Awaited::Input(Next::Close) | Awaited::Nothing(_) => false,
+        }
+    }
+
+    /// Hands the handler what it asked for, or tells it of the error in its place.
+    fn input<H: Handler, K: Sink, B: Allocator>(
+        &mut self,
+        handler: &mut H,
+        replies: &mut Replies<K, B>,
+        asked: Next,
+        wanted: Wanted,
+        supply: Supply,
+        searched: usize,
+    ) -> bool
+        requires asked { self.old.awaited ≡ Awaited.Input asked }
+        requires wanted { Wants self.old.endings asked wanted }
+        requires request { IsRequested (Awaited.Input asked) }
+        requires some { supply ≡ Supply.Ended → asked ≡ Next.Line → self.old.buffer.held ≢ [] }
+        requires searched { IsLookedFor wanted self.old.start self.old.buffer searched }
+        ensures turn { TurnOutcome H.answers H.refuses self.old.endings self.old.buffer.size supply
+            (place_at (Awaited.Input asked) handler.old self.old.start self.old.buffer.held)
+            replies.old result
+            (place_at self.new.awaited handler.new self.new.start self.new.buffer.held)
+            replies.new }
+        ensures size { self.new.buffer.size ≡ self.old.buffer.size }
+        ensures endings { self.new.endings ≡ self.old.endings }
+        ensures at_end { self.new.buffer.is_at_end ≡ self.old.buffer.is_at_end }
+    {
+        match look(&self.buffer, wanted, self.start, supply, searched) {
+            Ok(Some(found)) => self.hand(handler, replies, asked, wanted, supply, found.0, found.1),
+            Ok(None) => false,
+            Err(error) => {
+                let next = handler.refuse(error, replies);
+                self.awaited = after_fault(asked, error, next);
+                true
+            }
+        }
+    }
+
+    /// Hands the handler what it asked for.
+    fn hand<H: Handler, K: Sink, B: Allocator>(
+        &mut self,
+        handler: &mut H,
+        replies: &mut Replies<K, B>,
+        asked: Next,
+        wanted: Wanted,
+        supply: Supply,
+        n: usize,
+        end: u64,
+    ) -> bool
+        requires wanted { Wants self.old.endings asked wanted }
+        requires request { IsRequested (Awaited.Input asked) }
+        requires some { supply ≡ Supply.Ended → asked ≡ Next.Line → self.old.buffer.held ≢ [] }
+        requires found { Finds supply wanted self.old.start self.old.buffer n end }
+        ensures turn { TurnOutcome H.answers H.refuses self.old.endings self.old.buffer.size supply
+            (place_at (Awaited.Input asked) handler.old self.old.start self.old.buffer.held)
+            replies.old result
+            (place_at self.new.awaited handler.new self.new.start self.new.buffer.held)
+            replies.new }
+        ensures size { self.new.buffer.size ≡ self.old.buffer.size }
+        ensures endings { self.new.endings ≡ self.old.endings }
+        ensures at_end { self.new.buffer.is_at_end ≡ self.old.buffer.is_at_end }
+    {
+        let start = self.start;
+        self.buffer.take(n);
+        self.start = end;
+        let input = input_at(wanted, start, self.buffer.line_bytes());
+        let next = handler.answer(input.text, input.ending, replies);
+        self.awaited = after_answer(next);
+        true
+    }
+
+    /// Reads over bytes of a line that was rejected.
+    fn skip(&mut self, next: Next, supply: Supply) -> bool
+        requires { self.old.awaited ≡ Awaited.LineEnd next }
+        ensures skips { SkipTurn supply (any_text self.old.endings) next self.old.start
+            self.old.buffer.held result self.new.awaited self.new.start self.new.buffer.held }
+        ensures size { self.new.buffer.size ≡ self.old.buffer.size }
+        ensures endings { self.new.endings ≡ self.old.endings }
+        ensures at_end { self.new.buffer.is_at_end ≡ self.old.buffer.is_at_end }
+    {
+        let text = self.buffer.front(self.buffer.len());
+        let endings = whole_endings(self.endings);
+        let Some((n, awaited)) = skip_in(endings, next, self.start, text, supply) else {
+            return false;
+        };
+        self.start += n as u64;
+        self.buffer.take(n);
+        self.awaited = awaited;
+        true
+    }
+}
+
+/// What is awaited after an answer.
+fn after_answer(next: Next) -> Awaited
+    ensures { result ≡ awaited_by next }
+{
+    match next {
+        Next::Close => Awaited::Nothing(Stop::Closed),
+        Next::Line | Next::Part(_) => Awaited::Input(next),
+    }
+}
+
+/// What is awaited after an error in place of what was asked for.
+fn after_fault(asked: Next, error: LineError, next: Next) -> Awaited
+    ensures { GoesTo asked error next result }
+{
+    match (asked, next) {
+        (Next::Line, Next::Line | Next::Part(_)) if !is_final(error) => Awaited::LineEnd(next),
+        _ => Awaited::Nothing(Stop::Reader(error)),
+    }
+}
+
+/// How many bytes of a line that was rejected are read over, and what is awaited then. Nothing before more bytes
+/// come.
+fn skip_in(
+    endings: Endings,
+    next: Next,
+    start: u64,
+    text: &[u8],
+    supply: Supply,
+) -> Option<(usize, Awaited)>
+    ensures { SkipsIn supply endings next start text.now result }
+{
+    let (n, end) = part_of_line(endings, text, u64::MAX - start);
+    match (end, supply) {
+        (Some(PassEnd::Ending), _) => Some((n, after_answer(next))),
+        (Some(_), _) => Some((n, Awaited::Nothing(Stop::Reader(LineError::TooFar)))),
+        (None, Supply::Open) if n == 0 => None,
+        (None, Supply::Open) => Some((n, Awaited::LineEnd(next))),
+        (None, Supply::Ended) => Some((text.len(), Awaited::Nothing(Stop::EndOfInput))),
+        (None, Supply::Failed) => Some((n, Awaited::Nothing(Stop::Reader(LineError::Read)))),
+    }
+}
+
+/// Looks for what is wanted among the bytes of a buffer, of which the first `searched` were searched. Returns the
+/// number of its bytes and the position after them, or `None` if more bytes have to come.
+fn look<A: Allocator>(
+    buffer: &LineBuffer<A>,
+    wanted: Wanted,
+    start: u64,
+    supply: Supply,
+    searched: usize,
+) -> Result<Option<(usize, u64)>, LineError>
+    requires { IsLookedFor wanted start buffer.now searched }
+    ensures { Looks supply wanted start buffer.now result }
+{
+    may_fit(wanted, start, buffer.size())?;
+    let text = buffer.usable(wanted);
+    if let Some(n) = find(wanted, text, searched) {
+        return look_at(buffer, wanted, start, supply, n, false);
+    }
+    if text.len() < buffer.len() {
+        return Err(refusal(start, text.len(), buffer.size()));
+    }
+    match supply {
+        Supply::Open => Ok(None),
+        Supply::Ended => look_at(buffer, wanted, start, supply, text.len(), true),
+        Supply::Failed => Err(LineError::Read),
+    }
+}
+
+/// The number of the first `n` bytes and the position after them, or why they are not what is wanted.
+fn look_at<A: Allocator>(
+    buffer: &LineBuffer<A>,
+    wanted: Wanted,
+    start: u64,
+    supply: Supply,
+    n: usize,
+    is_last: bool,
+) -> Result<Option<(usize, u64)>, LineError>
+    requires found { FindsEnd wanted (window_at supply buffer.now) n is_last }
+    requires last { is_last ≡ true → supply ≡ Supply.Ended }
+    ensures { Looks supply wanted start buffer.now result }
+{
+    let end = end_of(wanted, start, buffer.front(n), is_last)?;
+    Ok(Some((n, end)))
+}
