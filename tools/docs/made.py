@@ -54,6 +54,12 @@ def example(docs):
     return [line[4:] for text in "\n".join(docs).split("\n\n") if text.startswith("    ") for line in text.splitlines()]
 
 
+def wants(name):
+    """The table of what a reader of the page of a type may want, if there is one."""
+    file = TOP / "tools/docs/wants" / f"{name}.md"
+    return read(file) if file.is_file() else ""
+
+
 def settle(file, text, command, is_check):
     """Writes a file, or compares it with what would be written. Returns the faults."""
     is_same = file.is_file() and read(file) == text

@@ -7,8 +7,8 @@ import kit
 import sentences
 from calls import table
 from definition_pages import short
-from made import TYPED, first_sentence, head_lines, module_file, modules_of
-from markup import Page, anchor_of, chips, clause_html, docs_html, frame, inline, link, linked_code, meanings_html
+from made import TYPED, first_sentence, head_lines, module_file, modules_of, wants
+from markup import Page, anchor_of, chips, clause_html, docs_html, frame, html_of, inline, link, linked_code, meanings_html
 from meanings import source_page
 from owners import MAIN, SHOWN_AT, by_name, error_of, owners, result_of, short_key, url_of
 from sources import impl_name, without_braces
@@ -37,6 +37,7 @@ class Reference:
         if owner.item and owner.kind != "module":
             page.parts.append(f"<pre><code>{linked_code(declaration(owner.item))}</code></pre>")
         page.parts += [docs_html(owner.docs, owner), self.about(owner, owner)]
+        page.parts.append(html_of(wants(owner.page.removesuffix(".html")).replace(".md", ".html")))
         self.name(owner.path if owner.kind == "module" else owner.name, owner.kind, owner.page, owner.docs, "", rank_of(owner.name))
         if owner.kind == "module":
             self.inner(owner, page)

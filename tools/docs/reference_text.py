@@ -9,7 +9,7 @@ from functools import cache
 import callers
 import examples
 import sentences
-from made import LIBRARIES, TOP, first_sentence, modules_of, settle
+from made import LIBRARIES, TOP, first_sentence, modules_of, settle, wants
 from meanings import words_in
 from owners import MAIN, SHOWN_AT, owners
 from reference import documentation
@@ -224,6 +224,8 @@ def page(owner):
     kind, crate = {"type": "a name of a type"}.get(owner.kind, f"a {owner.kind}"), owner.path.partition("::")[0]
     head = [MADE, f"# `{owner.path}`", "", f"{kind[0].upper()}{kind[1:]} of the crate `{crate}`. ([Reference](README.md))", ""]
     lines = docs_lines(owner.docs, owner) + members_lines(owner) if owner.kind == "module" else type_lines(owner)
+    wanted = wants(owner.page.removesuffix(".html"))
+    lines += [*wanted.splitlines(), ""] if wanted else []
     lines += contents(owner)
     for heading, group in owner.groups():
         EXPLAINED.clear()
@@ -258,7 +260,7 @@ def texts():
 
 def broken_links():
     """The links between Markdown pages that lead to no file or no heading."""
-    folders = ["*.md", "docs/*.md", "docs/reference/*.md", "crates/*/*.md", "bench/*.md", "tools/**/*.md"]
+    folders = ["*.md", "docs/*.md", "docs/reference/*.md", "crates/*/*.md", "bench/*.md", "tools/**/README.md"]
     for file in [it for folder in folders for it in sorted(TOP.glob(folder))]:
         for target, anchor in LINK.findall(CODE.sub("", read(file))):
             to = (file.parent / target).resolve() if target else file
