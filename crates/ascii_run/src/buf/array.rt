@@ -33,9 +33,8 @@ pub struct Array<const N: usize> {
     bytes: ArrayVec<u8, N>,
 }
 
-/// An owned string of at most `N` ASCII characters in the value itself, which never allocates. An
-/// edit whose text does not fit returns `Full`, and the text is unchanged. Its calls are those of
-/// `Text`.
+/// An owned string of at most `N` ASCII characters in the value itself. It never allocates: an edit
+/// whose text does not fit returns `Full`, and the text is unchanged. Its calls are those of `Text`.
 pub type ArrayAsciiString<const N: usize> = Text<Array<N>>;
 
 impl<const N: usize> Array<N> {
