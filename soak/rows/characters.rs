@@ -18,18 +18,14 @@ pub static ROWS: &[Row] = &[
     ("numbers_that_are_characters", |rows| {
         let mut all: Vec<i64> = (-129..300).collect();
         all.extend([0x120, 0x3bb, 0xffff, 0xffff_ff20, 0xffff_ffff]);
-        for number in all {
-            rows.ask(|asked| ask_characters_of(&[number], asked));
-        }
+        rows.each(all, |number, asked| ask_characters_of(&[number], asked));
     }),
     ("characters_by_unchecked_calls", |rows| rows.each(0..=255, |code, asked| ask_conversions(&[code], asked))),
     // Of a radix under 2 only 0 can be a digit, and of none no code.
     ("digits_of_each_radix", |rows| rows.each(0..37, |radix, asked| ask_characters(b"05z/AZ9", radix, asked))),
     ("pairs_of_characters", |rows| {
         for first in 0..128 {
-            for second in 0..128 {
-                rows.ask(|asked| ask_pairs(&[first, second], asked));
-            }
+            rows.each(0..128, |second, asked| ask_pairs(&[first, second], asked));
         }
     }),
     ("a_set_of_characters", |rows| rows.ask(|asked| ask_set(b"AAa", asked))),

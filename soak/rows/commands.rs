@@ -78,7 +78,7 @@ pub enum Range {
 
 /// A reply.
 #[derive(Clone, Copy)]
-enum Reply {
+pub enum Reply {
     Done,
     Char(Option<u8>),
     Number(usize),
@@ -151,7 +151,7 @@ impl Put for Reply {
 }
 
 /// Asks both types of string for the replies to commands, and for the text after them.
-fn ask(rows: &mut Rows, source: &str, cmds: &[Cmd], replies: &[Reply], text: &str) {
+pub fn ask(rows: &mut Rows, source: &str, cmds: &[Cmd], replies: &[Reply], text: &str) {
     let all = commands_of(cmds);
     for is_small in [false, true] {
         rows.ask(|asked| {
@@ -320,15 +320,21 @@ fn many_commands(rows: &mut Rows) {
     });
 }
 
+/// Commands over an empty string with a capacity, and the capacity after each.
 fn reserved_and_shrunk(rows: &mut Rows) {
-    let cmds = commands_of(&[Push(b'x'), Reserve(10_000), Shrink]);
-    rows.ask(|asked| {
-        ask_capacities(1, &cmds, asked);
-        let modelled = std::mem::take(&mut asked.want.bytes);
-        asked.want.put(1);
-        asked.want.all([1, 10_001, 1].map(|capacity| ("done", capacity)));
-        assert!(asked.want.bytes == modelled, "the model differs from the row");
-    });
+    let grown = commands_of(&[Push(b'x'), Reserve(10_000), Shrink]);
+    let mut cleared = commands_of(&[PushStr("aaaaaaaaaa"), Clear, PushStr("ab"), Reserve(100), Shrink]);
+    // An exact reservation.
+    cleared.add(19, 3, 0);
+    for (capacity, cmds, after) in [(1, &grown, &[1, 10_001, 1][..]), (10, &cleared, &[10, 10, 10, 102, 2, 5])] {
+        rows.ask(|asked| {
+            ask_capacities(capacity, cmds, asked);
+            let modelled = std::mem::take(&mut asked.want.bytes);
+            asked.want.put(capacity);
+            asked.want.all(after.iter().map(|capacity| ("done", capacity)));
+            assert!(asked.want.bytes == modelled, "the model differs from the row");
+        });
+    }
 }
 
 /// What the mode `Edit` answers over a text and over the end of it.

@@ -8,9 +8,7 @@ use crate::kinds::words::{ask_class, ask_marks, CLASSES};
 pub static ROWS: &[Row] = &[
     ("each_class_has_its_bytes", |rows| {
         let all: Vec<u8> = (0..=255).collect();
-        for class in 0..CLASSES.len() {
-            rows.ask(|asked| ask_class(class as u8, &all, &[], asked));
-        }
+        rows.each(0..CLASSES.len(), |class, asked| ask_class(class as u8, &all, &[], asked));
     }),
     ("kernels_over_few_bytes", few_bytes),
     ("marks_of_several_bytes", |rows| {
@@ -52,15 +50,11 @@ const TOKEN: u8 = 14;
 
 fn few_bytes(rows: &mut Rows) {
     let texts: [&[u8]; 6] = [&[0x20, 0x0b, 0xa0], &[0x85, 0x20], &[0x20, 0x09], &[], b"  \twhite \tspace  \t", b"\x0ba\x0b"];
-    for text in texts {
-        rows.ask(|asked| ask_kernels(text, asked));
-    }
+    rows.each(texts, |text, asked| ask_kernels(text, asked));
     let name = b"x-a-name-that-is-longer-than-sixty-four-bytes-so-that-all-steps-are-taken: y";
     let searched: [(u8, &[u8]); 6] =
         [(DIGIT, b"42px"), (DIGIT, b"42"), (DIGIT, b"v42"), (DIGIT, b""), (TOKEN, b"Content-Type: a"), (TOKEN, name)];
-    for (class, text) in searched {
-        rows.ask(|asked| ask_class(class, text, &[], asked));
-    }
+    rows.each(searched, |(class, text), asked| ask_class(class, text, &[], asked));
     for (to_upper, text) in [(true, [0x60, 0x61, 0x7a, 0x7b, 0xe1]), (false, [0x40, 0x41, 0x5a, 0x5b, 0xc1])] {
         rows.ask(|asked| ask_case_in_place(to_upper, &mut text.clone(), asked));
     }
@@ -72,9 +66,7 @@ fn few_bytes(rows: &mut Rows) {
         (b"aZ", b"Azz"),
         (b"", b""),
     ];
-    for (first, second) in pairs {
-        rows.ask(|asked| ask_equal_bytes(first, second, asked));
-    }
+    rows.each(pairs, |(first, second), asked| ask_equal_bytes(first, second, asked));
 }
 
 /// The longest text, and the number of offsets at which a text begins.

@@ -8,12 +8,8 @@ use crate::kinds::words::{ask_class, DIGIT};
 pub static ROWS: &[Row] = &[
     ("searches_reach_the_end_of_a_long_text", |rows| {
         let text = "ab".repeat(10_000) + "c";
-        for needle in ["abc", "bc", "c", "ab", "ba", "cc"] {
-            rows.ask(|asked| ask_find(&text, needle, asked));
-        }
-        for code in *b"abc" {
-            rows.ask(|asked| ask_find_character(code, text.clone().into_bytes(), asked));
-        }
+        rows.each(["abc", "bc", "c", "ab", "ba", "cc"], |needle, asked| ask_find(&text, needle, asked));
+        rows.each(*b"abc", |code, asked| ask_find_character(code, text.clone().into_bytes(), asked));
     }),
     ("another_letter_among_many_of_one_is_found_in_either_case", other_letters),
     ("numbers_of_20_000_digits", |rows| {

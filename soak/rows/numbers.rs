@@ -42,9 +42,7 @@ pub static ROWS: &[Row] = &[
     ("parts_that_std_writes", parts),
     ("hexadecimal_digits_are_those_of_format", |rows| {
         for number in [0, 1, 9, 10, 15, 16, 255, 256, 0xdead_beef, 1 << 60, u64::MAX - 1, u64::MAX] {
-            for width in [0, 1, 2, 15, 16, 17, 20] {
-                rows.ask(|asked| ask_hex(number, width, b"-", asked));
-            }
+            rows.each([0, 1, 2, 15, 16, 17, 20], |width, asked| ask_hex(number, width, b"-", asked));
         }
     }),
 ];
@@ -77,85 +75,72 @@ fn ask_radix(radix: u32, text: &str, rows: &mut Rows) {
     let signed = i8::from_str_radix(text, radix).ok().filter(|_| !text.starts_with('+'));
     let unsigned = u8::from_str_radix(text, radix).ok().filter(|_| !text.starts_with('+'));
     let read = |kind: usize| number_of(text.as_bytes(), radix, TYPES[kind]).ok();
-    assert_eq!(read(6), signed.map(|number| number.to_string()), "{text}");
-    assert_eq!(read(0), unsigned.map(|number| number.to_string()), "{text}");
+    assert_eq!(read(I8), signed.map(|number| number.to_string()), "{text}");
+    assert_eq!(read(U8), unsigned.map(|number| number.to_string()), "{text}");
     rows.ask(|asked| ask_numbers_of_radix(radix, text.as_bytes(), asked));
 }
 
-/// A text, and what it writes as an `i8`.
-static SIGNED: [(&str, Result<i8, Fault>); 11] = [
-    ("-128", Ok(-128)),
-    ("-0", Ok(0)),
-    ("", Err(Empty)),
-    ("-", Err(Empty)),
-    ("+1", Err(NotDigit(0))),
-    ("--1", Err(NotDigit(1))),
-    ("-1-", Err(NotDigit(2))),
-    ("- 1", Err(NotDigit(1))),
-    ("128", Err(TooLarge(2))),
-    ("-129", Err(TooLarge(3))),
-    ("-00200x", Err(TooLarge(5))),
-];
+/// The types of one byte, by their numbers in `TYPES`.
+const U8: usize = 0;
+const I8: usize = 6;
 
-/// A text, and what it writes as a `u8`.
-static UNSIGNED: [(&str, Result<u8, Fault>); 11] = [
-    ("007", Ok(7)),
-    ("", Err(Empty)),
-    ("x", Err(NotDigit(0))),
-    ("+1", Err(NotDigit(0))),
-    ("-1", Err(NotDigit(0))),
-    ("-", Err(NotDigit(0))),
-    ("12 ", Err(NotDigit(2))),
-    ("25x6", Err(NotDigit(2))),
-    ("256", Err(TooLarge(2))),
-    ("256x", Err(TooLarge(2))),
-    ("00300", Err(TooLarge(4))),
+/// A text, a type, and what the text writes as that.
+static NUMBERS: [(&str, usize, Result<i16, Fault>); 22] = [
+    ("-128", I8, Ok(-128)),
+    ("-0", I8, Ok(0)),
+    ("", I8, Err(Empty)),
+    ("-", I8, Err(Empty)),
+    ("+1", I8, Err(NotDigit(0))),
+    ("--1", I8, Err(NotDigit(1))),
+    ("-1-", I8, Err(NotDigit(2))),
+    ("- 1", I8, Err(NotDigit(1))),
+    ("128", I8, Err(TooLarge(2))),
+    ("-129", I8, Err(TooLarge(3))),
+    ("-00200x", I8, Err(TooLarge(5))),
+    ("007", U8, Ok(7)),
+    ("", U8, Err(Empty)),
+    ("x", U8, Err(NotDigit(0))),
+    ("+1", U8, Err(NotDigit(0))),
+    ("-1", U8, Err(NotDigit(0))),
+    ("-", U8, Err(NotDigit(0))),
+    ("12 ", U8, Err(NotDigit(2))),
+    ("25x6", U8, Err(NotDigit(2))),
+    ("256", U8, Err(TooLarge(2))),
+    ("256x", U8, Err(TooLarge(2))),
+    ("00300", U8, Err(TooLarge(4))),
 ];
 
 /// The numbers of a table are those that the plain loop reads, and the library reads what that loop reads.
 fn faults(rows: &mut Rows) {
-    for (text, number) in SIGNED {
-        assert_eq!(number_of(text.as_bytes(), 10, TYPES[6]), number.map(|number| number.to_string()), "{text}");
-        rows.ask(|asked| ask_numbers(text.as_bytes(), asked));
-    }
-    for (text, number) in UNSIGNED {
-        assert_eq!(number_of(text.as_bytes(), 10, TYPES[0]), number.map(|number| number.to_string()), "{text}");
+    for (text, kind, number) in NUMBERS {
+        assert_eq!(number_of(text.as_bytes(), 10, TYPES[kind]), number.map(|number| number.to_string()), "{text}");
         rows.ask(|asked| ask_numbers(text.as_bytes(), asked));
     }
 }
 
-/// A text, and the number at its start as an `i8`, with what follows it.
-static SIGNED_STARTS: [(&str, Result<(i8, &str), Fault>); 8] = [
-    ("-7", Ok((-7, ""))),
-    ("-5-6", Ok((-5, "-6"))),
-    ("5-6", Ok((5, "-6"))),
-    ("-128.", Ok((-128, "."))),
-    ("", Err(Empty)),
-    ("-", Err(Empty)),
-    ("--7", Err(NotDigit(1))),
-    ("-1280", Err(TooLarge(4))),
-];
-
-/// A text, and the number at its start as a `u8`, with what follows it.
-static STARTS: [(&str, Result<(u8, &str), Fault>); 7] = [
-    ("7", Ok((7, ""))),
-    ("007.5", Ok((7, ".5"))),
-    ("25 6", Ok((25, " 6"))),
-    ("", Err(Empty)),
-    (" 7", Err(NotDigit(0))),
-    ("256", Err(TooLarge(2))),
-    ("2560.", Err(TooLarge(2))),
+/// A text, a type, and the number at the start of the text as that, with what follows it.
+static STARTS: [(&str, usize, Result<(i16, &str), Fault>); 15] = [
+    ("-7", I8, Ok((-7, ""))),
+    ("-5-6", I8, Ok((-5, "-6"))),
+    ("5-6", I8, Ok((5, "-6"))),
+    ("-128.", I8, Ok((-128, "."))),
+    ("", I8, Err(Empty)),
+    ("-", I8, Err(Empty)),
+    ("--7", I8, Err(NotDigit(1))),
+    ("-1280", I8, Err(TooLarge(4))),
+    ("7", U8, Ok((7, ""))),
+    ("007.5", U8, Ok((7, ".5"))),
+    ("25 6", U8, Ok((25, " 6"))),
+    ("", U8, Err(Empty)),
+    (" 7", U8, Err(NotDigit(0))),
+    ("256", U8, Err(TooLarge(2))),
+    ("2560.", U8, Err(TooLarge(2))),
 ];
 
 fn starts(rows: &mut Rows) {
-    for (text, taken) in SIGNED_STARTS {
+    for (text, kind, taken) in STARTS {
         let taken = taken.map(|(number, rest)| (number.to_string(), rest.as_bytes()));
-        assert_eq!(taken_of(text.as_bytes(), TYPES[6]), taken, "{text}");
-        rows.ask(|asked| ask_numbers(text.as_bytes(), asked));
-    }
-    for (text, taken) in STARTS {
-        let taken = taken.map(|(number, rest)| (number.to_string(), rest.as_bytes()));
-        assert_eq!(taken_of(text.as_bytes(), TYPES[0]), taken, "{text}");
+        assert_eq!(taken_of(text.as_bytes(), TYPES[kind]), taken, "{text}");
         rows.ask(|asked| ask_numbers(text.as_bytes(), asked));
     }
 }

@@ -13,9 +13,7 @@ pub static ROWS: &[Row] = &[
     }),
     ("every_position_has_its_line_and_column", |rows| {
         for text in ["", "a", "\n", "ab\ncd", "\n\n", "a\r\n\nb\n", "abc\nd"] {
-            for at in 0..=text.len() + 1 {
-                rows.ask(|asked| ask_place(at, text.as_bytes(), asked));
-            }
+            rows.each(0..=text.len() + 1, |at, asked| ask_place(at, text.as_bytes(), asked));
         }
     }),
 ];

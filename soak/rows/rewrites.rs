@@ -72,9 +72,7 @@ const SCRIPTS: [&[u8]; 5] = [&[], &[0; 9], &[1; 9], &[0, 1, 3, 0, 1, 1, 0, 1], &
 
 /// The codes that represent a text, by each script.
 fn ask_scripts(form: u8, text: &[u8], codes: &[u8], rows: &mut Rows) {
-    for script in SCRIPTS {
-        rows.ask(|asked| ask_notation(form, text, codes.iter().copied().collect(), script, asked));
-    }
+    rows.each(SCRIPTS, |script, asked| ask_notation(form, text, codes.iter().copied().collect(), script, asked));
 }
 
 /// A text, and caret notation for it.
@@ -127,9 +125,7 @@ static UNESCAPED: [(&str, Result<&str, Escaped>); 19] = [
 ];
 
 fn unescaped(rows: &mut Rows) {
-    for (text, expected) in UNESCAPED {
-        rows.ask(|asked| ask_unescaped(text.as_bytes(), expected, asked));
-    }
+    rows.each(UNESCAPED, |(text, expected), asked| ask_unescaped(text.as_bytes(), expected, asked));
 }
 
 /// A text, and the text between the quotes at its start and what comes after it.

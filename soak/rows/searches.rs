@@ -10,9 +10,7 @@ pub static ROWS: &[Row] = &[
     ("texts_that_are_found", |rows| rows.each(PAIRS, |(text, needle), asked| ask_find(text, needle, asked))),
     ("every_small_needle_in_every_small_text", |rows| {
         for needle in (1..5).flat_map(|length| parts(FOURS, length)) {
-            for text in (1..9).flat_map(|length| parts(EIGHTS, length)) {
-                rows.ask(|asked| ask_find(text, needle, asked));
-            }
+            rows.each((1..9).flat_map(|length| parts(EIGHTS, length)), |text, asked| ask_find(text, needle, asked));
         }
     }),
     ("a_needle_at_each_position", each_position),
@@ -28,9 +26,7 @@ pub static ROWS: &[Row] = &[
     ("the_first_pieces_of_every_small_text", |rows| {
         for text in texts_of(b" \x0ba,", 5) {
             let text = String::from_utf8(text).expect("ASCII");
-            for n in 0..4 {
-                rows.ask(|asked| ask_splitn(n, b',', &text, &[0; 6], asked));
-            }
+            rows.each(0..4, |n, asked| ask_splitn(n, b',', &text, &[0; 6], asked));
         }
     }),
     ("remainder_of_the_first_pieces", first_pieces_left),
@@ -89,9 +85,7 @@ fn each_position(rows: &mut Rows) {
     for (needle, filler, count) in NEEDLES {
         let text = around(needle, filler, count);
         for length in (1..71).chain([96, 129, 255, 256, 257, 260, 280]) {
-            for part in parts(&text, length) {
-                rows.ask(|asked| ask_find(part, needle, asked));
-            }
+            rows.each(parts(&text, length), |part, asked| ask_find(part, needle, asked));
         }
     }
 }
@@ -133,13 +127,9 @@ static FOLDED: [(&str, &str, bool, bool); 11] = [
 static MIXED: &str = "aAbBaBAbb@`[{A@a{B1bAaA1BbAaBA";
 
 fn folded(rows: &mut Rows) {
-    for (text, needle) in [("", ""), ("", "a"), ("aB", "")] {
-        rows.ask(|asked| ask_find(text, needle, asked));
-    }
+    rows.each([("", ""), ("", "a"), ("aB", "")], |(text, needle), asked| ask_find(text, needle, asked));
     for needle in (1..4).flat_map(|length| parts(MIXED, length)) {
-        for text in (1..13).flat_map(|length| parts(MIXED, length)) {
-            rows.ask(|asked| ask_find(text, needle, asked));
-        }
+        rows.each((1..13).flat_map(|length| parts(MIXED, length)), |text, asked| ask_find(text, needle, asked));
     }
     for (needle, filler, count) in NEEDLES {
         let text = around(needle, filler, count);

@@ -33,24 +33,18 @@ pub static ROWS: &[Row] = &[
     }),
     ("pieces_of_every_small_text_at_a_text", |rows| {
         for text in texts_of(b" \x0ba,", 5) {
-            for needle in ["a", "aa", ",a", " ,"] {
-                rows.ask(|asked| ask_pieces_at(&text, needle.as_bytes(), &[0; 7], asked));
-            }
+            rows.each(["a", "aa", ",a", " ,"], |needle, asked| ask_pieces_at(&text, needle.as_bytes(), &[0; 7], asked));
         }
     }),
     ("words_and_trims_of_every_small_text", |rows| {
         for text in texts_of(b" \x0ba,", 5) {
-            for script in SCRIPTS {
-                rows.ask(|asked| ask_words_of(&text, &script, asked));
-            }
+            rows.each(SCRIPTS, |script, asked| ask_words_of(&text, &script, asked));
         }
     }),
     ("words_of_longer_texts", |rows| {
         for length in [63, 64, 65, 130] {
             let text: Vec<u8> = (0..length).map(|at| b"ab c,,d  ef,g h"[at % 15]).collect();
-            for end in [0, 1] {
-                rows.ask(|asked| ask_words_of(&text, &vec![end; 132], asked));
-            }
+            rows.each([0, 1], |end, asked| ask_words_of(&text, &vec![end; 132], asked));
         }
     }),
 ];

@@ -27,9 +27,7 @@ fn ask_all_ways(rows: &mut Rows, source: &[u8], place: usize) {
     rows.ask(|asked| ask_position(place, source, asked));
     rows.ask(|asked| ask_all(source, asked));
     rows.expect(expected(0, source, &[]), |asked| calls::ask_engine(asked, 0, &[], source, &WHOLE, &WHOLE));
-    for before in 0..place {
-        rows.ask(|asked| ask_parts(TO_INCLUSIVE, 0, before, source, asked));
-    }
+    rows.each(0..place, |before, asked| ask_parts(TO_INCLUSIVE, 0, before, source, asked));
 }
 
 fn byte_at_every_position(rows: &mut Rows) {
@@ -39,9 +37,7 @@ fn byte_at_every_position(rows: &mut Rows) {
             let mut source = vec![b'a'; length];
             source[place] = byte;
             ask_all_ways(rows, &source, place);
-            for before in 0..place {
-                rows.ask(|asked| ask_parts(FROM, before, 0, &source, asked));
-            }
+            rows.each(0..place, |before, asked| ask_parts(FROM, before, 0, &source, asked));
         }
     }
 }

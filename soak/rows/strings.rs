@@ -1,12 +1,11 @@
 //! Strings: their hashes, and what an inline string is.
 
-use super::commands::{commands_of, Cmd};
+use super::commands::{self, Cmd, Reply};
 use super::{Row, Rows};
 use crate::asked::{items_of, Item};
 use crate::calls::{self, Step};
 use crate::kinds::conversions::{ask_all, ask_character_written, ask_collected, ask_round_trips, ask_written};
 use crate::kinds::copies::{ask_copies, ask_turned};
-use crate::kinds::edits::expect_failures;
 use crate::kinds::json_values::ask_json;
 use crate::kinds::prints::{ask_printed, FORMS};
 use crate::kinds::texts::{ask_cases, ask_hashes, ask_owned_comparisons};
@@ -37,12 +36,12 @@ pub static ROWS: &[Row] = &[
     }),
     ("printed_strings", printed),
     ("only_ascii_is_written", written),
-    ("single_edits_of_a_string", single_edits),
+    ("single_edits_of_a_string", |rows| {
+        SINGLE_EDITS.into_iter().for_each(|(text, cmd, reply, after)| commands::ask(rows, text, &[cmd], &[reply], after))
+    }),
     ("sources_that_are_taken_over", |rows| {
         let sources: [&[u8]; 5] = ["bø!".as_bytes(), "zoä华".as_bytes(), &[127, 128, 255], &[40, 32, 59], b""];
-        for source in sources {
-            rows.ask(|asked| ask_all(source, asked));
-        }
+        rows.each(sources, |source, asked| ask_all(source, asked));
     }),
     ("collected_characters_and_texts", collected),
     ("calls_that_allocate_over_long_texts", long_texts),
@@ -100,36 +99,17 @@ fn written(rows: &mut Rows) {
     }
 }
 
-/// A text, a command over it, the answer of a command that has one, and the text after it.
-type Edit = (&'static str, Cmd, Option<u8>, &'static str);
-
-static SINGLE_EDITS: [Edit; 8] = [
-    ("", Cmd::Push(b'x'), None, "x"),
-    ("x", Cmd::Pop, Some(b'x'), ""),
-    ("foo", Cmd::Remove(0), Some(b'f'), "oo"),
-    ("oo", Cmd::Remove(1), Some(b'o'), "o"),
-    ("o", Cmd::Remove(0), Some(b'o'), ""),
-    ("foo", Cmd::Insert(2, b'b'), None, "fobo"),
-    ("hello", Cmd::Truncate(2), None, "he"),
-    ("hello world\0", Cmd::Set(0, b'H'), None, "Hello world\0"),
+/// A text, a command over it, its reply, and the text after it.
+static SINGLE_EDITS: [(&str, Cmd, Reply, &str); 8] = [
+    ("", Cmd::Push(b'x'), Reply::Done, "x"),
+    ("x", Cmd::Pop, Reply::Char(Some(b'x')), ""),
+    ("foo", Cmd::Remove(0), Reply::Char(Some(b'f')), "oo"),
+    ("oo", Cmd::Remove(1), Reply::Char(Some(b'o')), "o"),
+    ("o", Cmd::Remove(0), Reply::Char(Some(b'o')), ""),
+    ("foo", Cmd::Insert(2, b'b'), Reply::Done, "fobo"),
+    ("hello", Cmd::Truncate(2), Reply::Done, "he"),
+    ("hello world\0", Cmd::Set(0, b'H'), Reply::Done, "Hello world\0"),
 ];
-
-fn single_edits(rows: &mut Rows) {
-    for (text, cmd, answer, after) in SINGLE_EDITS {
-        let commands = commands_of(&[cmd]);
-        for is_small in [false, true] {
-            rows.ask(|asked| {
-                calls::ask_edits(asked, is_small, text.as_bytes(), &commands.texts, &commands.steps);
-                match answer {
-                    Some(code) => asked.want.put(code),
-                    None => asked.want.put("done"),
-                }
-                asked.want.put(after);
-                expect_failures(is_small, text.as_bytes(), &commands, asked);
-            });
-        }
-    }
-}
 
 fn collected(rows: &mut Rows) {
     for (text, code) in [("abc", b','), ("a,b,,c", b','), ("one\ntwo\nthree", b' '), ("ASCII Ascii ascii", b' '), ("", b',')] {

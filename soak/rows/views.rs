@@ -11,15 +11,11 @@ pub static ROWS: &[Row] = &[
     ("every_form_at_its_edges", at_edges),
     ("views_of_sources", |rows| {
         let sources: [&[u8]; 7] = ["abčd".as_bytes(), b"A", b"( ;", b"", &[127, 128, 255], &[0xc4, 0x8d], "zoä华".as_bytes()];
-        for source in sources {
-            rows.ask(|asked| ask_views(&mut source.to_vec(), asked));
-        }
+        rows.each(sources, |source, asked| ask_views(&mut source.to_vec(), asked));
     }),
     ("characters_at_positions", |rows| {
         for source in ["abčd", "", "ab", "abc", "ABCD"] {
-            for at in (0..6).chain([usize::MAX]) {
-                rows.ask(|asked| ask_position(at, source.as_bytes(), asked));
-            }
+            rows.each((0..6).chain([usize::MAX]), |at, asked| ask_position(at, source.as_bytes(), asked));
         }
     }),
     ("ranges_that_fit", |rows| {
@@ -101,9 +97,7 @@ static PARTS_OF_A_VIEW: [(Range, Result<&str, usize>); 12] = [
 
 fn parts(rows: &mut Rows) {
     let of_a_view = PARTS_OF_A_VIEW.iter().map(|(range, part)| ("ABCD", *range, *part));
-    for (source, range, part) in PARTS.into_iter().chain(of_a_view) {
-        rows.ask(|asked| ask_part(source, range, part, asked));
-    }
+    rows.each(PARTS.into_iter().chain(of_a_view), |(source, range, part), asked| ask_part(source, range, part, asked));
 }
 
 fn ask_part(source: &str, (form, start, end): Range, part: Result<&str, usize>, asked: &mut Asked) {

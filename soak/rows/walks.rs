@@ -326,9 +326,7 @@ fn chunks(rows: &mut Rows) {
     for chunks in CHUNKS {
         let source = chunks.concat();
         assert!(source.chunk_by(|a, b| a.is_ascii() == b.is_ascii()).eq(chunks.iter().copied()));
-        for script in [[0; 4], [1; 4], [0, 1, 0, 1], [1, 0, 1, 0]] {
-            rows.ask(|asked| ask_chunks(&source, &script, asked));
-        }
+        rows.each([[0; 4], [1; 4], [0, 1, 0, 1], [1, 0, 1, 0]], |script, asked| ask_chunks(&source, &script, asked));
     }
 }
 

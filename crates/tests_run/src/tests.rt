@@ -4,7 +4,6 @@
 mod devices;
 mod flushes;
 mod long_inputs;
-mod small_string;
 mod strings_in_the_value;
 
 ghost use Rattle.std.specs.Prelude.{IsTrue};

@@ -58,17 +58,6 @@ fn compare_chars<B: NewBuffer<Alloc = Global, Refusal = AllocError>, R: Abort + 
     assert_row!(rt; string.as_ascii_str().as_str(), TEXT);
 }
 
-#[test]
-fn all_characters_come(rt: HostRuntime) {
-    let chars = ascii(TEXT).to_chars(rt.alloc()).expect(&rt, "refused");
-    assert_row!(rt; chars.len(), 33);
-    for most in [None, Some(usize::MAX)] {
-        for length in [0, 3, 33] {
-            compare_chars::<Vec<u8>, HostRuntime>(&rt, &chars, length, most);
-        }
-    }
-}
-
 /// Fails the test if a string is not what the first `length` views are collected to, or not `TEXT`
 /// after the others are appended.
 fn compare_views<B: NewBuffer<Alloc = Global, Refusal = AllocError>, R: Abort + AllocGlobal>(
@@ -91,14 +80,16 @@ fn compare_views<B: NewBuffer<Alloc = Global, Refusal = AllocError>, R: Abort + 
 }
 
 #[test]
-fn all_views_come(rt: HostRuntime) {
+fn all_items_come(rt: HostRuntime) {
+    let chars = ascii(TEXT).to_chars(rt.alloc()).expect(&rt, "refused");
     let views: Vec<AsciiStr<'_>> = ascii(PIECES)
         .split(AsciiChar::Comma)
         .collect(rt.alloc())
         .expect(&rt, "refused");
-    assert_row!(rt; views.len(), 33);
+    assert_row!(rt; (chars.len(), views.len()), (33, 33));
     for most in [None, Some(usize::MAX)] {
         for length in [0, 3, 33] {
+            compare_chars::<Vec<u8>, HostRuntime>(&rt, &chars, length, most);
             compare_views::<Vec<u8>, HostRuntime>(&rt, &views, length, most);
         }
     }

@@ -5,7 +5,7 @@
 use ascii::{AsciiString, CloneBuffer, NewBuffer, Text};
 use ascii_formats::AsciiStringExt;
 use ascii_run::buf::Array;
-use ascii_run::{ArrayAsciiString, Full, Inline, SmallAsciiString};
+use ascii_run::{Full, Inline, SmallAsciiString};
 use std::alloc::{AllocError, Global};
 use std::fmt::Write;
 use std::process::Abort;
@@ -13,73 +13,6 @@ use testing::{ascii, assert_row, view};
 
 /// An inline string of up to 40 characters.
 type Label = Text<Inline<40>>;
-
-#[test]
-fn eight_characters_fit_eight(rt: HostRuntime) {
-    let mut string = ArrayAsciiString::<8>::new(());
-    assert_row!(rt; (string.len(), string.capacity(), string.is_inline()), (0, 8, true));
-    for ch in view("abcdefgh").chars() {
-        assert_row!(rt; string.push(ch), Ok(()));
-    }
-    assert_row!(rt; string.push(ascii::AsciiChar::i), Err(Full));
-    assert_row!(rt; string.as_ascii_str().as_str(), "abcdefgh");
-    assert_row!(rt; string.pop(), Some(ascii::AsciiChar::h));
-    assert_row!(rt; string.push(ascii::AsciiChar::i), Ok(()));
-    assert_row!(rt; string.as_ascii_str().as_str(), "abcdefgi");
-}
-
-#[test]
-fn what_half_fits_is_refused(rt: HostRuntime) {
-    half_fits_over::<Array<8>, HostRuntime>(&rt);
-}
-
-fn half_fits_over<B: NewBuffer<Alloc = (), Refusal = Full>, R: Abort>(rt: &R) {
-    let mut string = Text::<B>::from_ascii_str((), view("abcdef")).expect(rt, "full");
-    assert_row!(rt; string.insert_str(1, view("xyz")), Err(Full));
-    assert_row!(rt; string.push_str(view("xyz")), Err(Full));
-    assert_row!(rt; string.reserve(3), Err(Full));
-    assert_row!(rt; string.reserve_exact(2), Ok(()));
-    assert!(rt; string.write_str("xyz").is_err());
-    assert_row!(rt; string.as_ascii_str().as_str(), "abcdef");
-    assert_row!(rt; string.insert_str(1, view("xy")), Ok(()));
-    assert_row!(rt; string.as_ascii_str().as_str(), "axybcdef");
-    assert_row!(rt; string.insert(0, ascii::AsciiChar::z), Err(Full));
-    assert_row!(rt; string.remove(0), ascii::AsciiChar::a);
-    assert_row!(rt; string.insert(7, ascii::AsciiChar::z), Ok(()));
-    assert_row!(rt; string.as_ascii_str().as_str(), "xybcdefz");
-    assert_row!(rt; string.shrink_to_fit(), Ok(()));
-    assert_row!(rt; string.capacity(), 8);
-}
-
-#[test]
-fn the_largest_number_has_39_digits(rt: HostRuntime) {
-    let mut short = ArrayAsciiString::<38>::new(());
-    assert_row!(rt; short.push_decimal(u128::MAX), Err(Full));
-    assert!(rt; short.is_empty());
-    let mut long = ArrayAsciiString::<39>::new(());
-    assert_row!(rt; long.push_decimal(u128::MAX), Ok(()));
-    assert_row!(rt; long.as_ascii_str().as_str(), "340282366920938463463374607431768211455");
-}
-
-#[test]
-fn made_of_too_much(rt: HostRuntime) {
-    let is_made = |source| ArrayAsciiString::<4>::from_ascii_str((), ascii(source)).is_ok();
-    assert_row!(rt; is_made("abcd"), true);
-    assert_row!(rt; is_made("abcde"), false);
-    assert!(rt; ArrayAsciiString::<4>::with_capacity((), 4).is_ok());
-    assert!(rt; ArrayAsciiString::<4>::with_capacity((), 5).is_err());
-    assert!(rt; ArrayAsciiString::<4>::collect_chars((), view("abcd").chars()).is_ok());
-    extended_over::<Array<4>, HostRuntime>(&rt);
-}
-
-fn extended_over<B: NewBuffer<Alloc = (), Refusal = Full>, R: Abort>(rt: &R) {
-    let mut string = Text::<B>::new(());
-    assert_row!(rt; string.extend_chars(view("abcde").chars()), Err(Full));
-    assert_row!(rt; string.as_ascii_str().as_str(), "abcd");
-    string.clear();
-    assert_row!(rt; string.extend_strs(view("ab,cde").split(ascii::AsciiChar::Comma)), Err(Full));
-    assert_row!(rt; string.as_ascii_str().as_str(), "ab");
-}
 
 #[test]
 fn cut_copied_and_changed(rt: HostRuntime) {
