@@ -6,8 +6,8 @@ use crate::answer::{Answer, NOTHING, Put};
 use crate::devices::{Device, Given, Taken};
 use ascii::{AsciiStr, text};
 use ascii_lines::{
-    Conversation, Duplex, Ending, Endings, Handler, LineChannel, LineError, LineWriter, Next, Output, Replies, Sink, Stop,
-    serve,
+    Conversation, Duplex, Ending, Endings, Handler, LineChannel, LineError, LineWriter, Next,
+    Output, Replies, Sink, Stop, serve,
 };
 use std::alloc::{AllocError, Allocator, Global};
 

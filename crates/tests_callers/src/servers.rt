@@ -13,8 +13,8 @@ ghost use Rattle.ascii_lines.specs.Turns.{Turns, place_of, place_with};
 ghost use Rattle.tests_callers.specs.Servers.{ServesLamp, echo_reply, lit_after, reply_line, reply_to};
 
 use ascii_lines::{
-    AsciiStr, Channel, Conversation, Duplex, Ending, Endings, Handler, LineChannel, LineError, Next, Replies,
-    Sink, Stop, Supply, serve,
+    AsciiStr, Channel, Conversation, Duplex, Ending, Endings, Handler, LineChannel, LineError,
+    Next, Replies, Sink, Stop, Supply, serve,
 };
 use std::alloc::{AllocError, Allocator, Global};
 
