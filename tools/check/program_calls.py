@@ -161,7 +161,9 @@ FILTER = [
     Call("an output that is full", ["copy", "text", "none"], b"", 3, b"", FULL, "full"),
 ]
 
-OF_EXAMPLES = b"usage: examples head|host|ini|keys|lines|nmea|pager|register\n"
+OF_EXAMPLES = b"usage: examples events|head|host|ini|keys|lines|nmea|pager|register\n"
+LINES_OF_A_REGISTER = b"GET\nhello\r\nGET\nno\377ascii\nGET\nQUIT\nGET\n"
+REPLIES_OF_A_REGISTER = b"\nOK\nhello\nBAD\nhello\nBYE\n"
 HEAD = b"GET /a?b HTTP/1.1\r\nHost: a.example\r\nACCEPT:  */* \r\n\r\nbody"
 SETTINGS = b"; a comment\n[net]\nport = 80\n host=  a.example \n[disk]\npath =\n"
 SENTENCE = b"$GPGGA,123519,4807.038,N,01131.000,E,1,08,0.9,545.4,M,46.9,M,,*"
@@ -188,8 +190,9 @@ EXAMPLES = [
     Call("pager", ["pager"], TEXT, 0, b"the two lines that are l\nonger than one row\nend\n"),
     Call("pager of a byte above 127", ["pager"], b"two\n\303\244\n", 0, b"the byte at index 4 is not ASCII\n"),
     Call("pager of a word that is not there", ["pager"], b"four\none\n", 0, b"'four' not found\n"),
-    Call("register", ["register"], b"GET\nhello\r\nGET\nno\377ascii\nGET\nQUIT\nGET\n", 0, b"\nOK\nhello\nBAD\nhello\nBYE\n",
-         b"Closed\n"),
+    Call("register", ["register"], LINES_OF_A_REGISTER, 0, REPLIES_OF_A_REGISTER, b"Closed\n"),
+    Call("events", ["events"], LINES_OF_A_REGISTER, 0, REPLIES_OF_A_REGISTER, b"Some(Closed)\n"),
+    Call("events to the end of the input", ["events"], b"a\nGET", 0, b"OK\na\n", b"Some(EndOfInput)\n"),
     Call("an input that is not valid UTF-8", ["host"], b"\377\n", 1, b"", ANY),
     Call("no name", [], b"", 64, b"", OF_EXAMPLES),
     Call("an unknown name", ["key"], b"", 64, b"", OF_EXAMPLES),
