@@ -92,7 +92,7 @@ def type_entry(path, item, models):
     unknown = set(item.derives) - DERIVED
     if unknown:
         raise Wrong(f"{path} derives {', '.join(sorted(unknown))}, whose calls no clause is known to say")
-    members = [member for model in models for member in ghosts_of(model) if member.name != "view"]
+    members = model_members(item, models)
     shown = [f for f in item.inner if not (f.head.startswith("ghost ") and names_private(f, item))]
     return Entry(path, shown + members, docs=item.docs, item=item)
 
@@ -108,6 +108,13 @@ def field_lines(item):
         elif f.public or f.docs and item.kind == "enum":
             lines += [f"    {line}" for line in doc_line(f) + [f.head]]
     return lines
+
+
+def model_members(item, models):
+    """What models of a struct or an enum say of its values, without invariants that name private fields."""
+    private = {it.name for it in item.inner if not it.public and not it.head.startswith("ghost ")} if item.kind == "struct" else set()
+    members = [it for model in models for it in ghosts_of(model) if it.name != "view"]
+    return [it for it in members if it.name != "invariant" or not private & set(re.findall(r"\.(\w+)", it.head))]
 
 
 def names_private(member, item):

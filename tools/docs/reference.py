@@ -80,7 +80,7 @@ class Reference:
         blocks = [it for items in modules_of(owner.crate).values() for it in items if it.kind == "impl"]
         names = {owner.name, *(name for name, shown in SHOWN_AT.items() if shown == owner.name)}
         models = [it for it in blocks if impl_name(it)[0] == "Model" and impl_name(it)[1] in names]
-        ghosts = [member for model in models for member in callers.ghosts_of(model) if member.name != "view"]
+        ghosts = callers.model_members(owner.item, models) if models else []
         ghosts += callers.ghosts_of(owner.item) if owner.kind == "trait" else []
         if ghosts:
             page.heading("What a contract sees", "contract")

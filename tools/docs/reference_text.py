@@ -164,7 +164,7 @@ def type_lines(owner):
     item = owner.item
     blocks = [it for items in modules_of(owner.crate).values() for it in items if it.kind == "impl"]
     models = [it for it in blocks if impl_name(it) == ("Model", item.name)]
-    ghosts = [it for model in models for it in callers.ghosts_of(model) if it.name != "view"]
+    ghosts = callers.model_members(item, models)
     ghosts += callers.ghosts_of(item) if owner.kind == "trait" else []
     derives = [f"#[derive({', '.join(item.derives)})]"] if item.derives else []
     inner = callers.field_lines(item) if owner.kind in ("struct", "enum") else []
