@@ -2,7 +2,7 @@
 //! `crates/exports/src/serving.rt` says what it replies.
 
 use super::{Row, Rows};
-use crate::asked::{Asked, Fault};
+use crate::asked::{Asked, Failed, Fault, Needs};
 use crate::calls::{self, Device, WHOLE};
 use crate::line_model::Stop;
 
@@ -129,6 +129,13 @@ fn lengths(length: usize, cuts: u32) -> Vec<u8> {
     ends.map(|end| (end - std::mem::replace(&mut start, end)) as u8).collect()
 }
 
+/// What is answered if there is no memory for a buffer, or for the replies: they go out at once, at the end.
+fn fails_to_send(asked: &mut Asked, written: &str) {
+    let start = asked.want.bytes.len() - (1 + 8 + written.len());
+    asked.want.fails(Needs::Memory, 0, Failed);
+    asked.want.fails(Needs::memory_if(!written.is_empty()), start, "");
+}
+
 /// A conversation that is fed with an input of up to ten bytes, in every cutting; and one whose source fails.
 fn each_cutting(rows: &mut Rows) {
     for (input, endings, why, written) in SESSIONS.into_iter().filter(|(input, ..)| input.len() <= 10) {
@@ -136,6 +143,7 @@ fn each_cutting(rows: &mut Rows) {
             rows.ask(|asked| {
                 calls::ask_fed(asked, endings, 8, input, &lengths(input.len(), cuts), 0);
                 expect(asked, why, &[None, None], written);
+                fails_to_send(asked, written);
             });
         }
     }
@@ -145,6 +153,7 @@ fn each_cutting(rows: &mut Rows) {
         rows.ask(|asked| {
             calls::ask_fed(asked, ANY, 8, input, &[], 1);
             expect(asked, Stops(Some(Fault("read", None))), &[None, None], written);
+            fails_to_send(asked, written);
         });
     }
 }
