@@ -129,7 +129,7 @@ def meanings_html(texts, lines, bounds=""):
         for _, word, it in words_in(text, lines, bounds):
             if re.match(r"\w", word):
                 found.setdefault(word, it)
-    rows = [f"<dt>{link(it.url, word)}</dt><dd>{inline(it.text) or 'its text is its meaning'}</dd>" for word, it in found.items()]
+    rows = [f"<dt>{link(it.url, word)}</dt><dd>{inline(it.text)}</dd>" for word, it in found.items()]
     reading = f'<p class="small"><a href="{CONTRACTS}">How a contract is read</a></p>'
     return f"<dl>{''.join(rows)}</dl>{reading}" if rows else ""
 

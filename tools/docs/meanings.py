@@ -48,7 +48,7 @@ def meaning(module, name):
     """The meaning of a name that a `use` line brings from a module; none if nothing is known of it."""
     if found := definitions().named(module, name):
         file = f"crates/{found.module.removeprefix('Rattle.').replace('.', '/')}.antt"
-        return Meaning(name, found.comment, f"{page_of(found.module)}#{found.name}", file)
+        return Meaning(name, found.comment or own_words().get(name, ""), f"{page_of(found.module)}#{found.name}", file)
     declared = re.match(r"Rattle\.\w+\.specs\.declared\.([\w.]+)", module)
     if declared and not module.startswith("Rattle.std"):
         return declared_meaning(declared[1].split("."), name)
@@ -72,7 +72,7 @@ def constant_meaning(name):
     for crate, path, item in items:
         if item.kind == "const" and item.name == name:
             url = f"{source_page(crate, path)}#constant.{name}"
-            return Meaning(name, first_sentence(item.docs), url, "::".join([crate, *path]))
+            return Meaning(name, first_sentence(item.docs) or "the ranges of a class", url, "::".join([crate, *path]))
     return None
 
 
@@ -133,7 +133,7 @@ def member(word, bounds):
     own = members().get(names[-1], [])
     owner, ghost = next((it for it in own if re.search(rf"\b{it[0].name}\b", bounds)), own[0] if own else (None, None))
     if owner:
-        return Meaning(word, " ".join(ghost.docs), f"{owner.page}#contract", owner.path)
+        return Meaning(word, " ".join(ghost.docs) or own_words().get(f".{names[-1]}", ""), f"{owner.page}#contract", owner.path)
     text = own_words().get(f".{names[-1]}")
     return std_word(names[-1], text, "a ghost member of a trait of std") if text else None
 

@@ -22,8 +22,8 @@ WIDE = 118
 MANY = 8
 # What nearly every clause names: CONTRACTS explains them.
 USUAL = {"text_of", "code_of", "code_text", "mut_text_of"}
-# Of the page that is being made: the `use` lines of its examples, and the words that its group has explained.
-USED, EXPLAINED = set(), set()
+# Of the page that is being made: the `use` lines of its examples, the words that its group has explained, and those of its clauses.
+USED, EXPLAINED, IMPORTED = set(), set(), {}
 LINK = re.compile(r"\]\((?![a-z]+:)([^)#\s]*)#?([^)\s]*)\)")
 CODE = re.compile(r"^```.*?^```$", re.M | re.S)
 # What only those name who implement a trait of the library, or who write a class, a buffer or an iterator.
@@ -133,14 +133,18 @@ def module_link(file, crate):
     return f"[`{callers.for_callers(module, crate)}`](../../{file})"
 
 
-def word_line(texts, words, crate, bounds=""):
-    """The words of clauses that a sentence says, by the modules that import them."""
-    modules = {}
-    for word, it in {word: it for text in texts for _, word, it in words_in(text, words, bounds)}.items():
-        if it.file.startswith("crates/") and word not in USUAL | EXPLAINED:
-            EXPLAINED.add(word)
-            modules.setdefault(it.file, []).append(f"`{word}`")
-    return [f"- {', '.join(names)}, of {module_link(file, crate)}" for file, names in modules.items()]
+def note_words(texts, words, bounds=""):
+    """Notes the words of clauses that a sentence says, for the end of the page."""
+    found = {word: it for text in texts for _, word, it in words_in(text, words, bounds)}
+    for word, it in found.items():
+        if it.file.startswith("crates/") and word not in USUAL:
+            IMPORTED.setdefault(it.file, {})[word] = it
+
+
+def imported_lines(crate):
+    """The words of the clauses of a page, by the modules that import them."""
+    lines = [f"- {module_link(file, crate)}: {', '.join(f'`{word}`' for word in words)}" for file, words in IMPORTED.items()]
+    return ["## Modules of the words of the clauses", "", *lines, ""] if lines else []
 
 
 def block(lines):
@@ -148,15 +152,18 @@ def block(lines):
 
 
 def call_lines(call, owner):
-    """A call: what is proved of it in words, its head and its contract, its documentation, and the words of its contract."""
+    """A call: what is proved of it in words, its head and its contract, and its documentation."""
     docs, _ = documentation(call)
     bounds = f"{call.item.head} {call.block.head if call.block else ''}"
-    said = sentences.of_call(call.item.clauses)
-    explained = word_line if said else meaning_lines
-    meanings = list(explained([text for _, text in call.item.clauses], call.item.words, call.crate, bounds))
+    note_words([text for _, text in call.item.clauses], call.item.words, bounds)
     code = block([re.sub(r"^pub ", "", call.item.head), *clause_lines(call.item.clauses)])
-    proved = [*textwrap.wrap(f"Proved: {said[0].lower() if said[0] != '`' else '`'}{said[1:]}", WIDE, break_on_hyphens=False), ""] if said else []
-    return [f"### `{call.name}`", *proved, *code, *docs_lines(docs, owner, call.of_trait), *meanings, *([""] if meanings else [])]
+    return [f"### `{call.name}`", *said_lines(call), *code, *docs_lines(docs, owner, call.of_trait)]
+
+
+def said_lines(call, name=""):
+    """What a call requires and ensures, in words."""
+    said = sentences.of_call(call.item.clauses)
+    return [f"{name}{said}"] if said else []
 
 
 def type_lines(owner):
@@ -182,12 +189,14 @@ def impl_lines(impl, owner):
     for call in impl.calls:
         lines += [f"    {re.sub(r'^pub ', '', call.item.head)}", *(f"    {line}" for line in clause_lines(call.item.clauses))] if call.item.clauses else []
     texts = [without_braces(it.head) for it in ghosts] + [text for call in impl.calls for _, text in call.item.clauses]
-    words = [line for it in [*ghosts, *(call.item for call in impl.calls)] for line in it.words or []]
-    meanings = list(meaning_lines(texts, tuple(dict.fromkeys(words)), impl.crate, impl.item.head))
+    words = tuple(dict.fromkeys(line for it in [*ghosts, *(call.item for call in impl.calls)] for line in it.words or []))
+    note_words(texts, words, impl.item.head)
+    meanings = list(meaning_lines([without_braces(it.head) for it in ghosts], words, impl.crate, impl.item.head))
+    said = [line for call in impl.calls for line in said_lines(call, f"- `{call.name}`: " if len(impl.calls) > 1 else "")]
     docs = [line for call in impl.calls if call.item.docs for line in docs_lines(call.item.docs, owner, impl.of_trait)]
-    said = any(first_sentence(call.item.docs) and not call.item.docs[0].startswith("    ") for call in impl.calls if call.item.docs)
-    about = [] if said else docs_lines(impl.item.docs, owner, impl.of_trait)
-    return [*block(lines), *about, *docs, *meanings, *([""] if meanings else [])]
+    has_docs = any(first_sentence(call.item.docs) and not call.item.docs[0].startswith("    ") for call in impl.calls if call.item.docs)
+    about = [] if has_docs else docs_lines(impl.item.docs, owner, impl.of_trait)
+    return [*said, *block(lines), *about, *docs, *meanings, *([""] if meanings else [])]
 
 
 def members_lines(owner):
@@ -221,6 +230,7 @@ def page(owner):
     """The text of a page."""
     USED.clear()
     EXPLAINED.clear()
+    IMPORTED.clear()
     kind, crate = {"type": "a name of a type"}.get(owner.kind, f"a {owner.kind}"), owner.path.partition("::")[0]
     head = [MADE, f"# `{owner.path}`", "", f"{kind[0].upper()}{kind[1:]} of the crate `{crate}`. ([Reference](README.md))", ""]
     lines = docs_lines(owner.docs, owner) + members_lines(owner) if owner.kind == "module" else type_lines(owner)
@@ -233,7 +243,7 @@ def page(owner):
     impls = sorted((it for it in owner.impls if callers.ghosts_of(it.item) or any(call.item.clauses for call in it.calls)), key=lambda it: it.of_trait)
     if impls:
         lines += ["## Implementations of traits", *[line for it in impls for line in impl_lines(it, owner)]]
-    return "\n".join([*head, *used_lines(), *lines]).rstrip() + "\n"
+    return "\n".join([*head, *used_lines(), *lines, *imported_lines(owner.crate)]).rstrip() + "\n"
 
 
 def index():
@@ -242,9 +252,10 @@ def index():
     first = sorted((it for it in found if it.name in MAIN), key=lambda it: MAIN.index(it.name))
     for_implementors = [it for it in found if FOR_IMPLEMENTORS.fullmatch(it.name)]
     lines = [MADE, "# Reference", "", "Each public call with its contract, its documentation and an example. [CONTRACTS](../CONTRACTS.md) says how a",
-             "contract is read, and explains the words that nearly every clause has. Each other word is explained below the call,",
-             "with the module that imports it. Where a paragraph begins with *Proved*, it says the whole contract in words, except",
-             "for clauses that only the proof of a loop uses.", "",
+             "contract is read. Before the signature of each call, *Condition* and *Proved* say the whole contract in words. At the end of",
+             "a page are the modules that import the words of its clauses. A view, a string or an iterator is said by its name where its",
+             "text, or what it has yet to yield, is meant. The *sure length* of a string type is the length up to which an edit never",
+             "allocates: 0 for `AsciiString`.", "",
              "## The types used first", "", *table("Type", first)]
     for crate in LIBRARIES:
         of_crate = [it for it in found if it.crate == crate and it not in first and it not in for_implementors]

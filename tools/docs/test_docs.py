@@ -351,8 +351,22 @@ class Reach(unittest.TestCase):
 
 
 class Sentences(unittest.TestCase):
-    SENTENCES = sentences.Sentences("# A list.\ntext_of v | {v}\nlength l | the length of {l}\nmap =up l | {l} in upper case\nHas l | {l} has one\n"
-                                    "Cuts P Is r | on `None`, {P not}; on `Some`, {Is the first/the second}\nOn r P | on `Ok`, {P the value}\n")
+    SENTENCES = sentences.Sentences("""# A list.
+text_of v | {v}
+x.old | the old {x}
+x.text | {x}
+n - 1 | one less than {n}
+length l | the length of {l}
+slice_get l (length l - 1) | the last of {l}
+slice_get l at | the item of {l} at {at}
+map =up l | {l} in upper case
+MAX | the most
+Has l | {l} has one
+All (λ x. P) l | for each item of {l}, {P it}
+Cuts P Is r | on `None`, {P not}; on `Some`, {Is the first/the second}
+On r P | on `Ok`, {P the value}
+Then r P | after {r}, {P what [r] is}
+""")
 
     def said(self, clause):
         return self.SENTENCES.of(clause)
@@ -362,11 +376,28 @@ class Sentences(unittest.TestCase):
 
     def test_closures_say_something_of_what_is_given(self):
         self.assertEqual(self.said("Cuts (a < b) (λ x y. text_of x ≡ y) result"), "On `None`, `a` is not less than `b`; on `Some`, the first is the second.")
-        self.assertEqual(self.said("On result (λ v. v.text ≡ map up (text_of w.entry))"), "On `Ok`, the value is `w` in upper case.")
+        self.assertEqual(self.said("On result (λ v. v.text ≡ map up (text_of w))"), "On `Ok`, the value is `w` in upper case.")
+        self.assertEqual(self.said("All (λ v. v ≤ usize.MAX) l"), "For each item of `l`, it is at most the most.")
+        self.assertEqual(self.said("Then r (λ v. v ≡ w)"), "After `r`, what `r` is is `w`.")
+
+    def test_the_longest_pattern_that_fits_is_taken(self):
+        self.assertEqual(self.said("let t = text_of l in r ≡ slice_get t (length t - 1)"), "`r` is the last of `l`.")
+        self.assertEqual(self.said("r ≡ slice_get l (length m - 1)"), "`r` is the item of `l` at one less than the length of `m`.")
+
+    def test_a_record_is_said_by_its_fields(self):
+        self.assertEqual(self.said("r ≡ record { old = a; text = 2 }"), "The old `r` is `a`, and `r` is 2.")
+
+    def test_conditions_are_joined(self):
+        self.assertEqual(self.said("a < b → c ≡ [] → 2 ≤ d"), "If `a` is less than `b` and `c` is empty, then `d` is at least 2.")
 
     def test_what_has_no_sentence_is_not_said(self):
-        for clause in ("map down l ≡ l", "Unknown l", "Has (λ x. x)", "result ≡ record { a = b }", "¬ (Has l)"):
-            self.assertEqual(self.said(clause), "")
+        for clause in ("map down l ≡ l", "Unknown l", "Has (λ x. x)", "result ≡ record { a = b }", "¬ (Has l)", "l.length < 2"):
+            self.assertRaises(sentences.Unsaid, self.said, clause)
+
+    def test_a_sentence_that_no_clause_needs_is_known(self):
+        own = sentences.Sentences("Has l | {l} has one\nLacks l | {l} has none\n")
+        own.of("Has x")
+        self.assertEqual(own.unused(), ["Lacks l"])
 
     def test_a_binder_names_what_there_is(self):
         self.assertEqual(self.said("(n m : List ℕ) × (n ≡ m)"), "There are `n` and `m` such that `n` is `m`.")
