@@ -2,6 +2,7 @@
 import re
 from functools import cache
 
+from items import Wrong
 from sources import CRATES, read, read_modules
 
 TOP = CRATES.parent
@@ -55,9 +56,32 @@ def example(docs):
 
 
 def wants(name):
-    """The table of what a reader of the page of a type may want, if there is one."""
+    """What a page says between the documentation of its type and the calls, if anything: a table of what its reader may want, or how
+    its trait is implemented. A line `@from FILE FIRST` is code of a crate that CI proves, from the line that begins so to the end
+    of that item; with ` .. LAST`, to the line that begins with that."""
     file = TOP / "tools/docs/wants" / f"{name}.md"
-    return read(file) if file.is_file() else ""
+    return re.sub(r"^@from (\S+) (.+?)(?: \.\. (.+))?$", lambda m: quoted(*m.groups()), read(file), flags=re.M) if file.is_file() else ""
+
+
+def quoted(file, first, last):
+    """The lines of a source between two, as a block."""
+    lines, is_rust = [*read(TOP / file).splitlines(), ""], file.endswith(".rt")
+    ends = (lambda it: it.startswith(last)) if last else (lambda it: it == ("}" if is_rust else ""))
+    begin = next((at for at, line in enumerate(lines) if line.startswith(first)), None)
+    end = next((at for at, line in enumerate(lines[begin:], begin) if ends(line)), None) if begin is not None else None
+    if end is None:
+        raise Wrong(f"tools/docs/wants: no lines from `{first}` in {file}")
+    code = in_short("\n".join(lines[begin : end + 1])) if is_rust else "\n".join(lines[begin:end]).strip()
+    return f"```{'rust' if is_rust else 'antt'}\n{code}\n```"
+
+
+def in_short(code):
+    """Code without documentation and hints, with each function of an `impl` in one line if it fits, and no empty lines between."""
+    plain = re.sub(r"^ *(///|#\[inline).*\n", "", code, flags=re.M)
+    parts = re.sub(r"\n}$", "\n\n}", plain, flags=re.M).split("\n\n")
+    joined = [re.sub(r"\(\s+|,?\s+(?=\))", lambda m: m[0].strip(" \n,"), " ".join(part.split())).removesuffix(" }") + " }" for part in parts]
+    short = [f"    {line}" if re.match(r"    fn .*\n    }$", part, re.S) and len(line) < 116 else part for part, line in zip(parts, joined)]
+    return re.sub(r"\n\n(?=[ }])", "\n", "\n\n".join(short))
 
 
 def settle(file, text, command, is_check):

@@ -20,7 +20,7 @@ from definitions import Definitions  # noqa: E402
 from examples import examples_in, names_of_tests, statements  # noqa: E402
 from functions import functions_of  # noqa: E402
 from items import read_items  # noqa: E402
-from made import conditions, example, first_sentence  # noqa: E402
+from made import conditions, example, first_sentence, in_short  # noqa: E402
 from reference_text import joined  # noqa: E402
 from samples import in_own_crate, is_sample, named  # noqa: E402
 
@@ -153,6 +153,11 @@ fn hidden() ensures { IsCut } {}
 class Documentation(unittest.TestCase):
     DOCS = ["Returns it, or `None`. It is", "copied.", "", "Condition: `i` is", "small.", "",
             '    make("a").at(0) // 1', "    b()?"]
+
+    def test_code_is_shorter_on_a_page(self):
+        code = "impl A for B {\n    ghost is = { x };\n\n    /// Returns it.\n    #[inline]\n    fn at(\n        self,\n    ) -> u8 {\n        self.0\n    }\n}"
+        self.assertEqual(in_short(code), "impl A for B {\n    ghost is = { x };\n    fn at(self) -> u8 { self.0 }\n}")
+        self.assertEqual(in_short("struct A;\n\nstruct B;"), "struct A;\n\nstruct B;")
 
     def test_parts(self):
         self.assertEqual(first_sentence(self.DOCS), "Returns it, or `None`.")
