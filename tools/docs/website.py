@@ -16,6 +16,7 @@ from pathlib import Path
 
 import markup
 from definition_pages import DefinitionPages
+from items import Wrong
 from made import DEFINED, LIBRARIES, TOP, TYPED, first_sentence, module_file, modules_of, parts_of
 from markup import FOLDER, frame, html_of, inline, link, linked_docs
 from meanings import page_of, source_page
@@ -28,6 +29,8 @@ FIRST = ["README.md", "docs/START.md", "docs/CONTRACTS.md", "docs/UNPROVED.md", 
 # The reference in Markdown, whose pages the site has in HTML by the same names.
 REFERENCE = TOP / "docs/reference"
 OTHERS = ["CONTRIBUTING.md", "CHANGELOG.md", "bench/README.md", "tools/mutants/README.md", "tools/mutants/edits/README.md"]
+# The kinds of names that are words of contracts.
+DEFINITIONS = {"definition", "definitions", "word of std"}
 EXAMPLES = ["examples", "example_resp", "example_smtp"]
 # What a reader of the front page may want, and where it is.
 WAYS = [
@@ -57,6 +60,12 @@ def synonyms():
     return {word: others.split() for word, _, others in (line.partition(":") for line in lines)}
 
 
+def aliases():
+    """Words by which readers look for a name, by the name as the search shows it or by the address."""
+    lines = [line for line in read(FOLDER / "aliases.txt").splitlines() if line and line[0] != "#"]
+    return dict(line.split(": ", 1) for line in lines)
+
+
 def html_name(page):
     """The file name that a page of the repository has in the site."""
     return re.sub(r"\.md$", "", page).replace("/", "-") + ".html"
@@ -84,11 +93,20 @@ class Site:
         self.examples()
         self.front()
         self.all_names()
-        data = {"NAMES": self.names, "SYNONYMS": synonyms()}
+        data = {"NAMES": self.with_aliases(), "SYNONYMS": synonyms()}
         lines = [f"var {name} = {json.dumps(value, ensure_ascii=False, separators=(',', ':'))};\n" for name, value in data.items()]
         self.write("names.js", "".join(lines) + 'if (typeof module !== "undefined") module.exports = { NAMES, SYNONYMS };\n')
         for name in ("search.js", "style.css"):
             self.write(name, read(FOLDER / name))
+
+    def with_aliases(self):
+        """The names, each with the words by which readers look for it."""
+        words = aliases()
+        rows = [[*row, words.get(row[2]) or words.get(row[0], "") if row[1] not in DEFINITIONS else ""] for row in self.names]
+        unknown = words.keys() - {it for row in self.names for it in (row[0], row[2])}
+        if unknown:
+            raise Wrong(f"tools/docs/site/aliases.txt: nothing is named {', '.join(sorted(unknown))}")
+        return rows
 
     # The pages of the repository
 

@@ -1,6 +1,6 @@
 "use strict";
-// The search over NAMES of names.js: rows of a name, its kind, its address, its first sentence, its signature, and a rank, which is
-// above 0 for a main type and its methods. SYNONYMS of names.js has other words for what a reader asks for. The page loads
+// The search over NAMES of names.js: rows of a name, its kind, its address, its first sentence, its signature, a rank, which is above
+// 0 for a main type and its methods, and other words by which readers look for it. SYNONYMS of names.js has other words for what a reader asks for. The page loads
 // names.js when the search is first used.
 const KINDS = {
   all: () => true,
@@ -11,41 +11,61 @@ const KINDS = {
 };
 
 // How well a name fits a text: exactly, then as a part of a method of a main type, then at its start, then as a part.
-function fits([shown, kind, url, sentence, , rank], text) {
+function fits(row, text) {
+  const [shown, kind, url, , , rank] = row;
   const whole = shown.toLowerCase(), last = whole.split("::").pop(), short = 1 / (1 + whole.length);
   if (kind === "page" && url.toLowerCase() === `docs-${text}.html`) return 1500;
   if (last === text || whole === text) return 1000 + 10 * rank + (KINDS.definitions(kind) ? 0 : 5) + short;
   const isWord = last.split("_").includes(text) ? 20 : 0;
   if (rank > 0 && last.includes(text)) return (last.startsWith(text) ? 800 : 700) + isWord + rank + short;
-  if (last.startsWith(text)) return 600 + short;
-  if (whole.includes(text)) return (last.includes(text) ? 400 : 300) + short;
-  return fitsWords(shown, kind, url, sentence, text) + (rank > 0 ? rank / 10 : 0) + short;
+  if (last.startsWith(text)) return (KINDS.definitions(kind) ? 60 : 600) + short;
+  if (whole.includes(text)) return (KINDS.definitions(kind) ? 50 : last.includes(text) ? 400 : 300) + short;
+  const points = fitsWords(row, text);
+  return points > 0 ? points + (rank > 0 ? 4 + rank / 5 : 0) + short : 0;
 }
 
 // Words of a question that say nothing of its subject.
-const EMPTY = new Set("a an and are as at be by can do does for from get have how i if in into is it its me my of on or that the there this to use using want what when where which why with you".split(" "));
-const stem = (word) => word.replace(/(ations?|ating|ated|ates?|ing|ed|es|s)$/, "");
+const EMPTY = new Set(("a all an and another any are as at be by can do does each every for from get give have how i if in into is it its me my need of "
+  + "off on one or that the there this to use using want what when where which why will with without you").split(" "));
+const stem = (word) => word.replace(/(?<=...)s$/, "").replace(/(?<=....)(ation|ating|ated?|ing|ed|e)$/, "").replace(/([bdgmnprt])\1$/, "$1");
+const stems = (text) => new Set(text.split(/[^a-z0-9_]+/).filter(Boolean).map(stem));
 
-// How well a name and its sentence have the words of a question: each word, or another word for it.
-function fitsWords(shown, kind, url, sentence, text) {
+// The stems of the name, of the sentence and of the aliases of each row, and how many rows have each of them.
+function indexOf(names) {
+  const rows = new Map(), counts = new Map();
+  for (const row of names) {
+    const whole = row[0].toLowerCase(), parts = row[0].replace(/([a-z])([A-Z])/g, "$1 $2").toLowerCase();
+    const name = stems(`${parts.replace(/_/g, " ")} ${whole.replace(/::/g, " ")}`), sentence = stems(row[3].toLowerCase());
+    const aliases = stems(row[6] || "");
+    rows.set(row, { name, sentence, aliases, last: stems(parts.split("::").pop().replace(/_/g, " ")) });
+    for (const it of new Set([...name, ...sentence, ...aliases])) counts.set(it, 1 + (counts.get(it) || 0));
+  }
+  const weight = (it) => Math.log(2 + names.length / (1 + (counts.get(it) || 0)));
+  return { names, rows, weight, isKnown: (it) => counts.has(it) };
+}
+let index = null;
+
+// How well a name and its sentence have the words of a question, or other words for them: a rare word counts more than one that
+// many rows have.
+function fitsWords(row, text) {
   const words = text.split(/[^a-z0-9_]+/).filter((word) => word && !EMPTY.has(word));
   if (!words.length) return 0;
-  const whole = shown.toLowerCase(), parts = shown.replace(/([a-z])([A-Z])/g, "$1 $2").toLowerCase();
-  const inName = new Set(parts.split(/::|_|[^a-z0-9_]+/).concat(whole.split("::")).map(stem));
-  const inSentence = new Set(sentence.toLowerCase().split(/[^a-z0-9_]+/).map(stem));
+  const [, kind, url] = row, { name, sentence, aliases, last } = index.rows.get(row);
   const others = typeof SYNONYMS === "undefined" ? {} : SYNONYMS;
-  let points = 0;
+  let points = 0, all = 0, covered = 0;
   for (const word of words) {
-    const same = (others[word] || []).map((it) => it.toLowerCase());
-    if (inName.has(stem(word))) points += 60;
-    else if (same.some((it) => inName.has(stem(it)))) points += 50;
-    else if (inSentence.has(stem(word))) points += 25;
-    else if (same.some((it) => inSentence.has(stem(it)))) points += 15;
-    else points -= 20;
+    const it = stem(word), same = (others[word] || []).map((other) => stem(other.toLowerCase()));
+    if (!index.isKnown(it) && !same.length) continue;
+    const isNamed = name.has(it) ? 1 : aliases.has(it) ? 0.95 : same.some((other) => name.has(other)) ? 0.8 : 0;
+    const isSaid = sentence.has(it) ? 0.55 : same.some((other) => sentence.has(other)) ? 0.4 : 0;
+    const weight = index.weight(it);
+    if (last.has(it) || aliases.has(it)) covered += 1;
+    points += weight * (Math.max(isNamed, isSaid) + (isNamed && isSaid ? 0.1 : 0) || -0.4);
+    all += weight;
   }
-  const isHeading = kind === "page" && url.includes("#");
-  const bonus = isHeading ? 2 : { page: 14, struct: 12, type: 12, trait: 8, method: 10, function: 10 }[kind] || 0;
-  return points > 0 ? points / words.length + bonus + (KINDS.definitions(kind) ? -30 : 0) + 40 : 0;
+  const bonus = kind === "page" ? (url.includes("#") ? 0 : 4) : { method: 4, function: 4, struct: 2, type: 0, trait: 1, module: 1 }[kind] || 0;
+  const isOther = KINDS.definitions(kind) || url.startsWith("ascii_c.") ? 35 : url.startsWith("crates-") ? 15 : 0;
+  return points > 0 ? 20 + 100 * points / all + 12 * Math.min(1, covered / last.size) + bonus - isOther : 0;
 }
 
 const plain = (type) => type.replace(/'\w+|\bmut\b|[&\s]/g, "").replace(/<>/g, "").toLowerCase();
@@ -67,6 +87,7 @@ function fitsTypes([shown, , , , signature, rank], text) {
 function found(names, text, kind) {
   const lower = text.trim().toLowerCase();
   if (!lower) return [];
+  if (!index || index.names !== names) index = indexOf(names);
   const score = lower.includes("->") ? fitsTypes : fits;
   return names.filter((name) => KINDS[kind || "all"](name[1])).map((name) => [score(name, lower), name])
     .filter(([points]) => points > 0).sort((a, b) => b[0] - a[0]).map(([, name]) => name);
