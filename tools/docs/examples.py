@@ -2,7 +2,7 @@
 
 An example is a paragraph of a doc comment that is indented by four spaces. The comment after `//` in a line is the `{:?}`
 output of the value before it; the other lines are statements. `alloc` is the allocator. The tests are a crate that
-`bin/test examples` makes in a temporary folder.
+`bin/test examples` makes in a temporary folder. A test has the `use` lines that the page of its example prints.
 
 A fault is a call without an example."""
 import re
@@ -12,7 +12,7 @@ from pathlib import Path
 import calls
 import callers
 import sources
-from made import LIBRARIES, modules_of
+from made import LIBRARIES, head_lines, module_file, modules_of
 
 # The root of the tests: what they share.
 ROOT = Path(__file__).with_name("examples.txt")
@@ -45,7 +45,7 @@ def examples_in(docs):
 
 def examples_of(crate, modules):
     """The examples of a crate, as pairs of a name and lines; and the calls that have none."""
-    examples, without = [], []
+    examples, without = list(examples_of_heads(crate, modules)), []
     hidden = callers.hidden_types(modules)
     for entry in callers.entries_of(crate, modules):
         shared = examples_in(entry.docs)
@@ -61,6 +61,14 @@ def examples_of(crate, modules):
             elif not shares(shared, entry, call):
                 without.append(f"{crate}: {key}")
     return examples, without
+
+
+def examples_of_heads(crate, modules):
+    """The examples at the heads of modules, except those of a whole item, which needs definitions."""
+    for path in modules:
+        lines = examples_in(head_lines(module_file(crate, path)))
+        if lines and not any(re.match(r"(impl|struct)\b", line) for line in lines):
+            yield "::".join([*path, "head"]), [re.sub(r"^([^/;]*[^/;{}\s])$", r"let _shown = \1;", line) for line in lines]
 
 
 def shares(lines, entry, call):
@@ -94,13 +102,28 @@ def tests(crate, examples, is_proved):
     """The tests of some examples of a crate, as lines: a module for each, with the lines that its page has above it."""
     yield f"//! The examples in the documentation of `{crate}`."
     for name, key, lines in examples:
-        uses = [*use_lines(lines, crate, key), "use testing::assert_debug;"]
+        uses = [*uses_of(lines, crate, key), "use testing::assert_debug;"]
         uses += ["use super::super::Echo;"] if re.search(r"\bEcho\b", "\n".join(lines)) else []
         if is_proved and key != "AsciiStr::literal":
             lines, uses = [with_view(line) for line in lines], [*uses, "use testing::view;"]
         body = list(statements(lines))
         alloc = ["let alloc = rt.alloc();"] if re.search(r"\balloc\b", "\n".join(body)) else []
         yield from ["", f"// {key}", f"mod {name} {{", *uses, "", "#[test]", f"fn {name}(rt: HostRuntime) {{", *alloc, *body, "}", "}"]
+
+
+@cache
+def uses_on_pages():
+    """The `use` lines that the reference prints for each example, by its lines."""
+    import reference_text
+
+    reference_text.texts()
+    return reference_text.PRINTED
+
+
+def uses_of(lines, crate, key):
+    """The lines that bring the names of an example: those of its page, if it has one."""
+    found = uses_on_pages().get(tuple(it.removeprefix("let _shown = ").rstrip(";") for it in lines))
+    return use_lines(lines, crate, key) if found is None else found
 
 
 def with_view(line):

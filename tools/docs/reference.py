@@ -3,6 +3,7 @@ import re
 from html import escape
 
 import callers
+import equal
 import kit
 import sentences
 from calls import table
@@ -153,7 +154,7 @@ class Reference:
         source = f"{source_page(call.crate, call.module)}#{line_anchor(call.item)}"
         return (f'<section class="call" id="{anchor}"><h3><a class="perma" href="#{anchor}" aria-label="link to {call.name}">§</a>'
                 f'<code>{linked_code(re.sub(r"^pub ", "", call.item.head))}</code><a class="src" href="{source}">source</a></h3>'
-                f'<div class="docs">{docs_html(docs, owner, call.of_trait)}{said}{contract(call)}{evidence(call)}</div></section>')
+                f'<div class="docs">{docs_html(docs, owner, call.of_trait)}{equal_html(owner, call)}{said}{contract(call)}{evidence(call)}</div></section>')
 
     def impls(self, owner, page):
         derived = [it for it in owner.item.derives if it != "Drop"] if owner.item else []
@@ -238,6 +239,11 @@ def contract(call):
     said = sentences.of_call(call.item.clauses)
     proved = f"<p>{inline(said)}</p>" if said else ""
     return f'{proved}<details class="contract"><summary>Contract</summary>{"".join(clauses)}{meanings}</details>'
+
+
+def equal_html(owner, call):
+    said = equal.line(owner, call.name)
+    return f"<p>{inline(said)}</p>" if said else ""
 
 
 def evidence(call):

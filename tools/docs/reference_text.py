@@ -4,11 +4,14 @@ A page has the `use` lines of its examples; and each call with its contract, its
 its contract mean, each with the module that imports it. A type without calls is on the page of its module."""
 import re
 import textwrap
+from collections import Counter
 from functools import cache
 
 import callers
+import equal
 import examples
 import sentences
+from items import Wrong
 from made import LIBRARIES, TOP, first_sentence, modules_of, settle, wants
 from meanings import words_in
 from owners import MAIN, SHOWN_AT, owners
@@ -24,6 +27,8 @@ MANY = 8
 USUAL = {"text_of", "code_of", "code_text", "mut_text_of"}
 # Of the page that is being made: the `use` lines of its examples, the words that its group has explained, and those of its clauses.
 USED, EXPLAINED, IMPORTED = set(), set(), {}
+# Of all pages: the `use` lines of each example, by its lines.
+PRINTED = {}
 LINK = re.compile(r"\]\((?![a-z]+:)([^)#\s]*)#?([^)\s]*)\)")
 CODE = re.compile(r"^```.*?^```$", re.M | re.S)
 # What only those name who implement a trait of the library, or who write a class, a buffer or an iterator.
@@ -75,7 +80,10 @@ def docs_lines(docs, owner, of_trait=""):
     """The lines of a documentation, without signposts to other modules."""
     paragraphs = [it for it in "\n".join(docs).split("\n\n") if it.strip() and not it.startswith("Made by ")]
     code = [line for it in paragraphs if it.startswith("    ") for line in it.splitlines()]
-    USED.update(examples.use_lines(code, owner.path.partition("::")[0], f"{owner.name} {of_trait}"))
+    uses = examples.use_lines(code, owner.path.partition("::")[0], f"{owner.name} {of_trait}")
+    USED.update(uses)
+    if PRINTED.setdefault(tuple(line.strip().rstrip(";") for line in code), uses) != uses:
+        raise Wrong(f"{owner.path}: two pages have an example with different `use` lines")
     lines = [line for paragraph in fenced(paragraphs) for line in [*paragraph.splitlines(), ""]]
     return [line for line, after in zip(lines, [*lines[1:], ""]) if line or not after.startswith("```rust")]
 
@@ -86,14 +94,17 @@ def joined(uses):
     for line in uses:
         module, _, last = line.removeprefix("use ").rstrip(";").rpartition("::" if "{" not in line else "::{")
         names.setdefault(module, set()).update(re.findall(r"\w+", last))
+    twice = [it for it, count in Counter(it for found in names.values() for it in found).items() if count > 1]
+    if twice:
+        raise Wrong(f"the examples of one page import {', '.join(twice)} from two modules")
     for module, found in sorted(names.items()):
         yield f"use {module}::{min(found)};" if len(found) == 1 else f"use {module}::{{{', '.join(sorted(found))}}};"
 
 
 def used_lines():
-    """The `use` lines of the examples of a page."""
+    """The `use` lines of the examples of a page, and what leads to them."""
     lines = list(joined(USED))
-    return ["The examples of this page need these lines; `alloc` is an allocator, such as `rt.alloc()`:", "", *block(lines)] if lines else []
+    return (" Its examples need these lines; `alloc` is an allocator, such as `rt.alloc()`:", block(lines)) if lines else ("", [])
 
 
 def about_group(heading):
@@ -157,7 +168,12 @@ def call_lines(call, owner):
     bounds = f"{call.item.head} {call.block.head if call.block else ''}"
     note_words([text for _, text in call.item.clauses], call.item.words, bounds)
     code = block([re.sub(r"^pub ", "", call.item.head), *clause_lines(call.item.clauses)])
-    return [f"### `{call.name}`", *said_lines(call), *code, *docs_lines(docs, owner, call.of_trait)]
+    return [f"### `{call.name}`", *said_lines(call), *code, *docs_lines(docs, owner, call.of_trait), *equal_lines(owner, call)]
+
+
+def equal_lines(owner, call):
+    said = equal.line(owner, call.name)
+    return [said, ""] if said else []
 
 
 def said_lines(call, name=""):
@@ -194,8 +210,8 @@ def impl_lines(impl, owner):
     meanings = list(meaning_lines([without_braces(it.head) for it in ghosts], words, impl.crate, impl.item.head))
     said = [line for call in impl.calls for line in said_lines(call, f"- `{call.name}`: " if len(impl.calls) > 1 else "")]
     docs = [line for call in impl.calls if call.item.docs for line in docs_lines(call.item.docs, owner, impl.of_trait)]
-    has_docs = any(first_sentence(call.item.docs) and not call.item.docs[0].startswith("    ") for call in impl.calls if call.item.docs)
-    about = [] if has_docs else docs_lines(impl.item.docs, owner, impl.of_trait)
+    is_said = any(first_sentence(call.item.docs) and not call.item.docs[0].startswith("    ") for call in impl.calls if call.item.docs)
+    about = [] if is_said else docs_lines(impl.item.docs, owner, impl.of_trait)
     return [*said, *block(lines), *about, *docs, *meanings, *([""] if meanings else [])]
 
 
@@ -208,8 +224,18 @@ def members_lines(owner):
     for it in small:
         if it.kind != "type" and it not in hidden:
             lines += [f"## `{it.name}`", *type_lines(it)]
-            lines += [line for impl in it.impls if callers.ghosts_of(impl.item) for line in impl_lines(impl, it)]
-    return lines + table("For those who implement", [it for it in hidden if it.kind != "type"])
+            lines += [line for impl in it.impls if is_shown(impl) for line in impl_lines(impl, it)]
+    inner = [line for it in hidden for impl in it.impls if has_docs(impl) for line in impl_lines(impl, it)]
+    return lines + table("For those who implement", [it for it in hidden if it.kind != "type"]) + inner
+
+
+def has_docs(impl):
+    return any(call.item.docs for call in impl.calls)
+
+
+def is_shown(impl):
+    """Whether an `impl` says something that its trait does not."""
+    return bool(callers.ghosts_of(impl.item)) or has_docs(impl) or any(call.item.clauses for call in impl.calls)
 
 
 def name_of(alias):
@@ -232,7 +258,7 @@ def page(owner):
     EXPLAINED.clear()
     IMPORTED.clear()
     kind, crate = {"type": "a name of a type"}.get(owner.kind, f"a {owner.kind}"), owner.path.partition("::")[0]
-    head = [MADE, f"# `{owner.path}`", "", f"{kind[0].upper()}{kind[1:]} of the crate `{crate}`. ([Reference](README.md))", ""]
+    head = [MADE, f"# `{owner.path}`", "", f"{kind[0].upper()}{kind[1:]} of the crate `{crate}`. ([Reference](README.md))"]
     lines = docs_lines(owner.docs, owner) + members_lines(owner) if owner.kind == "module" else type_lines(owner)
     wanted = wants(owner.page.removesuffix(".html"))
     lines += [*wanted.splitlines(), ""] if wanted else []
@@ -240,10 +266,12 @@ def page(owner):
     for heading, group in owner.groups():
         EXPLAINED.clear()
         lines += [f"## {heading}", "", *about_group(heading), *[line for call in group for line in call_lines(call, owner)]]
-    impls = sorted((it for it in owner.impls if callers.ghosts_of(it.item) or any(call.item.clauses for call in it.calls)), key=lambda it: it.of_trait)
+    impls = sorted(filter(is_shown, owner.impls), key=lambda it: it.of_trait)
     if impls:
         lines += ["## Implementations of traits", *[line for it in impls for line in impl_lines(it, owner)]]
-    return "\n".join([*head, *used_lines(), *lines, *imported_lines(owner.crate)]).rstrip() + "\n"
+    need, uses = used_lines()
+    head[-1] += need
+    return "\n".join([*head, *uses, *([] if uses else [""]), *lines, *imported_lines(owner.crate)]).rstrip() + "\n"
 
 
 def index():
@@ -267,6 +295,17 @@ def texts():
     """The files of the reference, with their texts."""
     made = {file_of(it): page(it) for it in shown() if has_page(it)}
     return {"README.md": index(), **made}
+
+
+def shortened(made):
+    """The docs of calls that are longer in the source than on their page."""
+    plain = lambda text: " ".join(text.split())  # noqa: E731
+    pages = {name: plain(text.replace("```rust", "").replace("```", "")) for name, text in made.items()}
+    for owner in shown():
+        for call in [*owner.calls, *(it for impl in owner.impls for it in impl.calls)]:
+            for text in "\n".join(call.item.docs).split("\n\n"):
+                if plain(text) not in pages[file_of(owner)]:
+                    yield f"docs/reference/{file_of(owner)}: {call.key}: lacks `{plain(text)[:60]}`"
 
 
 def broken_links():
@@ -294,4 +333,4 @@ def faults(is_check):
             file.unlink()
         stale = []
     found = [fault for name, text in made.items() for fault in settle(FOLDER / name, text, "reference", is_check)]
-    return [*found, *broken_links(), *(f"docs/reference/{it.name} is of nothing: run bin/docs reference" for it in stale)]
+    return [*found, *shortened(made), *broken_links(), *(f"docs/reference/{it.name} is of nothing: run bin/docs reference" for it in stale)]

@@ -4,11 +4,13 @@ import sys
 import tempfile
 import unittest
 from pathlib import Path
+from types import SimpleNamespace
 
 sys.dont_write_bytecode = True
 TOP = Path(__file__).resolve().parents[2]
 sys.path[:0] = [str(TOP / "tools" / it) for it in ("docs", "reader", "check")]
 import clauses  # noqa: E402
+import equal  # noqa: E402
 import examples  # noqa: E402
 import lengths  # noqa: E402
 import reach  # noqa: E402
@@ -19,7 +21,7 @@ import uses  # noqa: E402
 from definitions import Definitions  # noqa: E402
 from examples import examples_in, names_of_tests, statements  # noqa: E402
 from functions import functions_of  # noqa: E402
-from items import read_items  # noqa: E402
+from items import Wrong, read_items  # noqa: E402
 from made import conditions, example, first_sentence, in_short  # noqa: E402
 from reference_text import joined  # noqa: E402
 from samples import in_own_crate, is_sample, named  # noqa: E402
@@ -408,10 +410,23 @@ Then r P | after {r}, {P what [r] is}
         self.assertEqual(self.said("(n m : List ℕ) × (n ≡ m)"), "There are `n` and `m` such that `n` is `m`.")
 
 
+class Equal(unittest.TestCase):
+    def call(self, name, head, clause):
+        return SimpleNamespace(name=name, item=SimpleNamespace(head=f"pub fn {name}{head}", clauses=[("ensures", clause)]))
+
+    def test_calls_of_equal_types_and_clauses_do_the_same(self):
+        own = [self.call("a", "(self) -> u8", "P self result"), self.call("b", "(&self) -> u8", "P  self.now result"),
+               self.call("c", "(self) -> u8", "Q self result"), self.call("d", "(self) -> u16", "P self result")]
+        self.assertEqual(equal.pairs(SimpleNamespace(calls=own)), {("a", "b")})
+
+
 class Commands(unittest.TestCase):
     def test_uses_of_a_module_are_joined(self):
         lines = joined({"use a::b::{C, D};", "use a::b::E;", "use a::F;"})
         self.assertEqual(list(lines), ["use a::F;", "use a::b::{C, D, E};"])
+
+    def test_one_name_of_two_modules_is_rejected(self):
+        self.assertRaises(Wrong, list, joined({"use a::b::C;", "use a::d::C;"}))
 
     def test_unknown_arguments_are_rejected(self):
         for words in (["nothing"], ["reference", "x"], ["words", "--check"], ["reach", "--list"], ["site"], []):

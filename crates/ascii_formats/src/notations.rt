@@ -7,7 +7,7 @@
 //!
 //! Each returns an iterator over the characters that are written, and `{}` prints them:
 //!
-//!     EscapeAscii::new(AsciiStr::literal("a\tb")).to_string(alloc) // Ok("a\\tb")
+//!     EscapeAscii::new(AsciiStr::literal("a\tb")).to_string(alloc)? // "a\\tb"
 //!
 //! A contract sees the iterator as the list of codes that it has yet to yield. Nothing here allocates.
 

@@ -3,7 +3,7 @@
 //! The escapes are those of std: `\t`, `\r`, `\n`, `\'`, `\"`, `\\`, and `\x` with two hexadecimal digits in either case.
 //!
 //!     AsciiStr::literal("a\\tb").unescape(alloc) // Ok("a\tb")
-//!     EscapeAscii::new(AsciiStr::literal("a\\tb")).to_string(alloc) // Ok("a\\\\tb")
+//!     EscapeAscii::new(AsciiStr::literal("a\\tb")).to_string(alloc)? // "a\\\\tb"
 
 ghost use Rattle.std.specs.Prelude.{◌≡◌, ◌<◌, ◌≤◌, [], MatchOption, MatchResult, length, slice_index};
 ghost use Rattle.ascii_formats.specs.Unescape.{HasNoPiece, IsFaultOfText, StartsWithPiece, Unescapes};
