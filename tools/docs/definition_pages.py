@@ -123,8 +123,10 @@ def errors_of(call):
 
 def short(text):
     """A sentence for a row of the search."""
-    text = text.replace("`", "")
-    return text if len(text) < 150 else f"{text[:150].rpartition(' ')[0]} .."
+    if len(text) < 150:
+        return text
+    begin = text[:150].rpartition(" ")[0]
+    return f"{begin.rpartition('`')[0] if begin.count('`') % 2 else begin} .."
 
 
 def users_of_words():

@@ -23,7 +23,7 @@ CONTRACTS = "docs-CONTRACTS.html"
 EXTENSIONS = ["tables", "fenced_code", "toc"]
 # What is colored in code, which is escaped: a comment, a string or a character, a keyword, and the name of a type or a variant.
 KEYWORDS = "as break const continue else enum ensures fn for ghost if impl in let loop match mod mut pub requires return struct trait type use where while"
-TOKENS = re.compile(r"""(?P<c>(?:^|(?<= ))//(?= |$|[/!]).*$)|(?P<s>b?"(?:\\.|[^"\\])*"|b?'(?:\\.|[^'\\\n])')"""
+TOKENS = re.compile(r"""(?P<c>(?:^|(?<= ))(?://(?= |$|[/!])|--(?= )).*$)|(?P<s>b?"(?:\\.|[^"\\])*"|b?'(?:\\.|[^'\\\n])')"""
                     rf"|(?P<k>\b(?:{'|'.join(KEYWORDS.split())})\b)|(?P<t>\b[A-Z]\w*\b)", re.M)
 
 

@@ -71,7 +71,7 @@ def pieces():
 LAYERS = {
     "ascii_show": (0, 0, 1.9, "a program"), "ascii_filter": (0, 2, 3.9, "a program"), "cookbook": (0, 4, 5.9, "recipes"),
     "example_resp": (0, 7.4, 9.6, "a store"), "example_smtp": (0, 9.7, 12, "mail"),
-    "ascii_c": (1, 0, 1.6, "for C"), "ascii_formats": (1, 1.7, 3.7, "numbers, escapes"), "ascii_keys": (1, 3.8, 5.2, "maps"),
+    "ascii_c": (1, 0, 1.3, "for C"), "ascii_formats": (1, 1.4, 3.5, "numbers, escapes"), "ascii_keys": (1, 3.6, 5.2, "maps"),
     "ascii_run": (1, 5.3, 7.4, "commands, engines"), "ascii_lines": (1, 7.6, 12, "lines in and out, a server"),
     "ascii": (2, 0, 7.2, "views, iterators, searches, strings, JSON, serde"), "ascii_devices": (2, 7.6, 12, "sources, sinks"),
     "ascii_search": (3, 0, 3.4, "searches by masks"),
@@ -89,7 +89,7 @@ def direct_uses():
 
 def layers():
     """The crates, with an arrow from each to those that it uses."""
-    column, parts, places = 58, [], {}
+    column, parts, places = 66, [], {}
     for name, (row, first, last, what) in LAYERS.items():
         x, y, width = 20 + first * column, 14 + row * 84, (last - first) * column
         places[name] = (x, y, width)

@@ -38,7 +38,8 @@ class Reference:
         if owner.item and owner.kind != "module":
             page.parts.append(f"<pre><code>{linked_code(declaration(owner.item))}</code></pre>")
         page.parts += [docs_html(owner.docs, owner), self.about(owner, owner)]
-        page.parts.append(html_of(wants(owner.page.removesuffix(".html")).replace(".md", ".html")))
+        page.parts.append(html_of(wants(owner.page.removesuffix(".html")).replace(".md", ".html"), []))
+        page.side += [f'<h2><a href="#{anchor}">{it}</a></h2>' for anchor, it in re.findall(r'<h2 id="(.*?)">(.*?)<', page.parts[-1])]
         self.name(owner.path if owner.kind == "module" else owner.name, owner.kind, owner.page, owner.docs, "", rank_of(owner.name))
         if owner.kind == "module":
             self.inner(owner, page)
@@ -153,7 +154,7 @@ class Reference:
             self.name(shown, kind, f"{owner.page}#{anchor}", call.item.docs, signature(call, owner), rank)
         source = f"{source_page(call.crate, call.module)}#{line_anchor(call.item)}"
         return (f'<section class="call" id="{anchor}"><h3><a class="perma" href="#{anchor}" aria-label="link to {call.name}">§</a>'
-                f'<code>{linked_code(re.sub(r"^pub ", "", call.item.head))}</code><a class="src" href="{source}">source</a></h3>'
+                f'<code>{signature_html(call)}</code><a class="src" href="{source}">source</a></h3>'
                 f'<div class="docs">{docs_html(docs, owner, call.of_trait)}{equal_html(owner, call)}{said}{contract(call)}{evidence(call)}</div></section>')
 
     def impls(self, owner, page):
@@ -208,6 +209,11 @@ def signature(call, owner):
     """What goes in and what comes out, with the type itself for `self`."""
     head = re.sub(r"^.*?\bfn \w+", "", call.item.head)
     return re.sub(r"\bself\b", owner.name, head.partition(" where ")[0]) if owner.kind != "module" else head
+
+
+def signature_html(call):
+    """The head of a call, with its name in bold and links to its types."""
+    return re.sub(rf"\bfn {call.name}\b", f"fn <b>{call.name}</b>", linked_code(re.sub(r"^pub ", "", call.item.head)), count=1)
 
 
 def line_anchor(item):

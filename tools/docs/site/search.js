@@ -93,6 +93,23 @@ function found(names, text, kind) {
     .filter(([points]) => points > 0).sort((a, b) => b[0] - a[0]).map(([, name]) => name);
 }
 
+// An element with a text, or with some nodes.
+const element = (tag, ...inner) => {
+  const it = document.createElement(tag);
+  it.append(...inner);
+  return it;
+};
+
+// An answer: the name with its link, what it is, and its sentence, in which code is between backquotes.
+const answerItem = ([name, what, url, sentence], isHere) => {
+  const link = element("a", element("code", name));
+  link.href = url;
+  const item = element("li", link, ` ${what}. `, ...sentence.split("`").map((text, part) => part % 2 ? element("code", text) : text));
+  item.className = isHere ? "here" : "";
+  return item;
+};
+const NOTHING = "Nothing is found. Try a part of a name, other words, or types such as AsciiStr -> usize.";
+
 // The field at the head of each page, the answers below it, and the keys.
 function begin() {
   const field = document.createElement("input"), panel = document.getElementById("found");
@@ -103,59 +120,53 @@ function begin() {
   let kind = "all", here = 0, answers = [];
 
   const button = (name) => {
-    const it = document.createElement("button");
-    it.textContent = name;
+    const it = element("button", name);
     it.setAttribute("aria-pressed", name === kind);
     it.addEventListener("click", () => { kind = name; here = 0; show(); field.focus(); });
     return it;
   };
-  const answer = ([name, what, url, sentence], at) => {
-    const item = document.createElement("li"), link = document.createElement("a"), code = document.createElement("code");
-    code.textContent = name;
-    link.href = url;
-    link.append(code);
-    item.className = at === here ? "here" : "";
-    item.append(link, ` ${what}. ${sentence}`);
-    return item;
-  };
-  const nothing = () => {
-    const item = document.createElement("li");
-    item.textContent = "Nothing is found. Try a part of a name, other words, or types such as AsciiStr -> usize.";
-    return item;
-  };
   const show = () => {
+    const isAsked = Boolean(field.value.trim());
     answers = typeof NAMES === "undefined" ? [] : found(NAMES, field.value, kind).slice(0, 30);
-    const kinds = document.createElement("div"), list = document.createElement("ol");
+    const kinds = element("div", ...Object.keys(KINDS).map(button));
+    const list = element("ol", ...answers.map((it, at) => answerItem(it, at === here)), ...(answers.length ? [] : [element("li", NOTHING)]));
     kinds.className = "kinds";
-    kinds.append(...Object.keys(KINDS).map(button));
-    list.append(...answers.map(answer));
-    if (!answers.length) list.append(nothing());
-    panel.replaceChildren(...(field.value.trim() ? [kinds, list] : []));
+    panel.replaceChildren(...(isAsked ? [kinds, list] : []));
     const address = new URL(location.href);
-    if (field.value.trim()) address.searchParams.set("q", field.value); else address.searchParams.delete("q");
+    if (isAsked) address.searchParams.set("q", field.value); else address.searchParams.delete("q");
     history.replaceState(null, "", address);
-    document.querySelector(".columns").hidden = Boolean(field.value.trim());
+    document.querySelector(".columns").hidden = isAsked;
   };
-  const load = () => {
-    if (document.getElementById("names")) return;
-    const script = document.createElement("script");
-    script.id = "names";
-    script.src = "names.js";
-    script.addEventListener("load", show);
-    document.head.append(script);
-  };
-  const go = (by) => { here = Math.max(0, Math.min(answers.length - 1, here + by)); show(); };
-  field.addEventListener("focus", load);
+  answerKeys(field, show, (by) => { here = Math.max(0, Math.min(answers.length - 1, here + by)); show(); }, () => answers[here]);
+  field.addEventListener("focus", () => load(show));
   field.addEventListener("input", () => { here = 0; show(); });
+  if (asked) { field.value = asked; load(show); show(); }
+}
+
+// Loads the names, once.
+function load(show) {
+  if (document.getElementById("names")) return;
+  const script = document.createElement("script");
+  Object.assign(script, { id: "names", src: "names.js" });
+  script.addEventListener("load", show);
+  document.head.append(script);
+}
+
+// The keys of the field: an arrow goes to another answer, Enter follows it, Escape leaves the field; and `/` goes to the field.
+function answerKeys(field, show, go, chosen) {
   field.addEventListener("keydown", (event) => {
     const does = { ArrowDown: () => go(1), ArrowUp: () => go(-1), Escape: () => { field.value = ""; show(); field.blur(); },
-                   Enter: () => { if (answers[here]) location.href = answers[here][2]; field.value = ""; show(); } }[event.key];
+                   Enter: () => { if (chosen()) location.href = chosen()[2]; field.value = ""; show(); } }[event.key];
     if (does) { event.preventDefault(); does(); }
   });
   document.addEventListener("keydown", (event) => {
     if (event.key === "/" && document.activeElement !== field) { event.preventDefault(); field.focus(); }
   });
-  // A link to a place in a folded part opens that part.
+}
+
+// A link to a place in a folded part opens that part, a button opens or closes all contracts, and on a narrow screen what is beside
+// a page is folded.
+function fold() {
   const open = () => {
     const target = document.getElementById(decodeURIComponent(location.hash.slice(1)));
     for (let it = target; it; it = it.parentElement) if (it.tagName === "DETAILS") it.open = true;
@@ -163,11 +174,17 @@ function begin() {
   };
   window.addEventListener("hashchange", open);
   if (location.hash) open();
-  if (asked) { field.value = asked; load(); show(); }
-  // On a narrow screen what is beside a page is folded.
+  const contracts = [...document.querySelectorAll("details.contract")], all = element("button", "Open all contracts");
+  all.className = "all";
+  all.addEventListener("click", () => {
+    const isOpen = !contracts.every((it) => it.open);
+    for (const it of contracts) it.open = isOpen;
+    all.textContent = isOpen ? "Close all contracts" : "Open all contracts";
+  });
+  if (contracts.length > 1) document.querySelector("main h1").after(all);
   const side = document.querySelector("aside > details");
   if (side && window.matchMedia("(max-width: 52rem)").matches) side.open = false;
 }
 
-if (typeof document !== "undefined") begin();
+if (typeof document !== "undefined") { begin(); fold(); }
 if (typeof module !== "undefined") module.exports = { found };
