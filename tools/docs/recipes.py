@@ -1,13 +1,12 @@
 """Makes docs/RECIPES.md from the cookbook: for each recipe its problem, its calls with their code, and what is proved of them. At
 its end is the page beside.md, on other crates.
 
-The problems are the table at the head of crates/cookbook/src/lib.rt. What is proved is each clause of a call, with the comments of
-the definitions that it names."""
+The problems are the table at the head of crates/cookbook/src/lib.rt. What is proved of a call is said by sentences.txt."""
 import re
 import textwrap
 
+import sentences
 from made import TOP, head_lines, module_file, modules_of, settle
-from meanings import words_in
 from sources import read
 
 PAGE = TOP / "docs/RECIPES.md"
@@ -17,14 +16,12 @@ HEAD = """\
 <!-- Made by `bin/docs recipes` from crates/cookbook: change the sources, and not this page. -->
 # ascii: recipes
 
-Problems that users have, solved over the public contracts of the library. Each call is proved, and tested with each of its
-errors. `bin/add ../yours cookbook` copies all of them into your repository `../yours`, from
+Problems that users have, solved over the public contracts of the library. Each call is proved, for every input, and tested
+with each of its errors; *Proved* says its contract in words. `bin/add ../yours cookbook` copies all of them into your repository `../yours`, from
 [`crates/cookbook`](../crates/cookbook). The last section is about using the library with other crates. ([Home](../README.md);
 [how a contract is read](CONTRACTS.md))
 """
 ROW = re.compile(r"\| (.+?) \| (.+?) \| `(\w+)` \|")
-# The definitions that nearly every clause names, and that say nothing of the recipe.
-USUAL = {"text_of", "code_of", "Line", "WithStart"}
 
 
 def rows():
@@ -46,21 +43,10 @@ def code(item, path):
     return f"```rust\n// {module_file(CRATE, path).relative_to(TOP)}\n{text}\n```"
 
 
-def proved(item):
-    """What is proved of a call: each clause that it ensures, and what the words in them mean."""
-    clauses = [" ".join(text.split()) for label, text in item.clauses if label.startswith("ensures")]
-    words = {}
-    for clause in clauses:
-        words.update({word: it.text for _, word, it in words_in(clause, item.words)
-                      if it.file.startswith("crates/") and it.text and word not in USUAL})
-    listed = [f"- `{word}`: {text}" for word, text in words.items()]
-    return [*[f"- `{it}`" for it in clauses], *(["", "where", "", *listed] if listed else [])]
-
-
 def call_lines(item, path, owner=""):
     """A call: its name, its documentation, its code, and what is proved of it."""
     return [f"### `{owner}{item.name}`", "", paragraph(item.docs), "", code(item, path), "",
-            "Proved, for every input:", "", *proved(item), ""]
+            sentences.of_call(item.clauses), ""]
 
 
 def error_lines(item):

@@ -225,10 +225,10 @@ def of_call(clauses):
 
 
 def public_calls():
-    """The public calls of the libraries, each once."""
-    from reference_text import shown
+    """The public calls of the libraries and of the recipes, each once."""
+    from owners import owners
 
-    found = [call for owner in shown() for call in [*owner.calls, *(it for impl in owner.impls for it in impl.calls)]]
+    found = [call for owner in owners().values() for call in [*owner.calls, *(it for impl in owner.impls for it in impl.calls)]]
     return {id(it.item): it for it in found}.values()
 
 
