@@ -243,7 +243,7 @@ def contract(call):
         return ""
     meanings = meanings_html([text for _, text in call.item.clauses], call.item.words, bounds)
     said = sentences.of_call(call.item.clauses)
-    proved = f"<p>{inline(said)}</p>" if said else ""
+    proved = html_of(said) if said else ""
     return f'{proved}<details class="contract"><summary>Contract</summary>{"".join(clauses)}{meanings}</details>'
 
 

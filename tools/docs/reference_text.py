@@ -179,7 +179,7 @@ def equal_lines(owner, call):
 def said_lines(call, name=""):
     """What a call requires and ensures, in words."""
     said = sentences.of_call(call.item.clauses)
-    return [f"{name}{said}"] if said else []
+    return [*f"{name}{said}".splitlines(), *([""] if "\n" in said else [])] if said else []
 
 
 def type_lines(owner):

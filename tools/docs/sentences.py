@@ -19,6 +19,8 @@ FILE = Path(__file__).resolve().parent / "sentences.txt"
 # How the signs between two terms are said, if no line of sentences.txt fits.
 SIGNS = {"→": "if {}, then {}", "↔": "{} exactly if {}", "⊎": "{}, or {}", "≡": "{} is {}", "≢": "{} is not {}", "<": "{} is less than {}",
          "≤": "{} is at most {}", "++": "{} followed by {}", "∷": "{} followed by {}", "+": "{} + {}", "-": "{} - {}", "*": "{} × {}", "^": "{}^{}"}
+# The length from which on what is proved of a call is a list of sentences.
+LONG = 420
 VERBS = ("contains", "starts with", "ends with", "lies", "may", "is")
 HOLE = re.compile(r"\{(\w+)((?: [^{}]+)?)\}")
 
@@ -212,16 +214,34 @@ def sentences():
 @cache
 def said(kind, clauses):
     """What clauses of a kind say: `requires`, or `ensures`, to which those that hold once a borrow has ended belong."""
-    return " ".join(dict.fromkeys(sentences().of(text) for label, text in clauses if label.startswith(kind)))
+    return merged(dict.fromkeys(sentences().of(text) for label, text in clauses if label.startswith(kind)))
+
+
+def merged(said):
+    """Sentences, of which those in a row that are about one case, such as `On `Ok`, ..`, are one."""
+    found = []
+    for it in said:
+        case = re.match(r"On `\w+`, ", it)
+        if case and found and found[-1].startswith(case[0]) and ";" not in found[-1] + it:
+            found[-1] = f"{found[-1][:-1]}, and {it[len(case[0]):]}"
+        else:
+            found.append(it)
+    return found
 
 
 def of_call(clauses):
-    """What a call requires and ensures, as a paragraph in Markdown; nothing if a clause is not said."""
+    """What a call requires and ensures, in Markdown: a paragraph, or a list if it is long; nothing if a clause is not said."""
     try:
         parts = [(name, said(kind, tuple(clauses))) for name, kind in (("Condition", "requires"), ("Proved", "ensures"))]
     except Unsaid:
         return ""
-    return " ".join(f"**{name}:** {it[0].lower()}{it[1:]}" for name, it in parts if it)
+    return " ".join(paragraph(f"**{name}:**", " ".join(it)) for name, it in parts if it)
+
+
+def paragraph(name, text):
+    if len(text) > LONG:
+        return "\n- ".join([f"{name}\n", *re.split(r"(?<=\.) (?=[A-Z`])", text)])
+    return f"{name} {text[0].lower()}{text[1:]}"
 
 
 def public_calls():

@@ -406,6 +406,15 @@ Then r P | after {r}, {P what [r] is}
         own.of("Has x")
         self.assertEqual(own.unused(), ["Lacks l"])
 
+    def test_sentences_about_one_case_are_one(self):
+        said = ["On `Ok`, a.", "On `Ok`, b.", "On `Err`, c.", "On `Err`, d; e."]
+        self.assertEqual(sentences.merged(said), ["On `Ok`, a, and b.", "On `Err`, c.", "On `Err`, d; e."])
+
+    def test_what_is_long_is_a_list(self):
+        self.assertEqual(sentences.paragraph("P:", "It is. `b` is."), "P: it is. `b` is.")
+        long = "It is " + "so " * 200
+        self.assertEqual(sentences.paragraph("P:", f"{long}. `b` is."), f"P:\n\n- {long}.\n- `b` is.")
+
     def test_a_binder_names_what_there_is(self):
         self.assertEqual(self.said("(n m : List ℕ) × (n ≡ m)"), "There are `n` and `m` such that `n` is `m`.")
 
