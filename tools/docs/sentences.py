@@ -39,7 +39,8 @@ def matches(pattern, term, bound):
         return names_match(pattern[1], term[1], {}) and matches(pattern[2], term, bound)
     if kind in ("closure", "binder"):
         at = 1 if kind == "closure" else 2
-        return pattern[1:at] == term[1:at] and names_match(pattern[at], term[at], bound) and matches(pattern[-1], term[-1], bound)
+        is_same = pattern[1:at] == term[1:at] and names_match(pattern[at], term[at], bound)
+        return is_same and all(matches(it, other, bound) for it, other in zip(pattern[at + 1 :], term[at + 1 :]))
     return all(part_matches(it, other, bound) for it, other in zip(pattern, term))
 
 
