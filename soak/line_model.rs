@@ -112,11 +112,6 @@ impl<'a> Model<'a> {
         (line, place + 1)
     }
 
-    /// Goes on after a last line without an ending, as a conversation does: it asks for what is left, which is nothing.
-    pub fn go_on(&mut self) {
-        self.has_ended = false;
-    }
-
     /// The next `n` bytes with their start.
     pub fn part(&mut self, n: usize) -> Result<(usize, &'a [u8]), Stop> {
         if let Some(error) = self.error {

@@ -255,8 +255,6 @@ fn send(sent: &mut Vec<u8>, before: &mut Vec<(usize, bool)>, reply: &[u8]) -> Re
 fn converse(model: &mut Model<'_>, sent: &mut Vec<u8>, before: &mut Vec<(usize, bool)>) -> Result<Fault, Stop> {
     let mut is_part = false;
     loop {
-        // A part that is longer than the buffer is an error also where the input has ended.
-        model.go_on();
         let text = if is_part { model.part(3)?.1 } else { model.next_line()?.1 };
         send(sent, before, &text.to_ascii_uppercase()).map_err(Some)?;
         if !is_part && text == b"q" {

@@ -50,6 +50,6 @@ module _ (size i j n : ℕ) (all text : List ℕ) (is_at_end : Bool) (same : i �
 -- a strict conversation that was sent `ab` CR LF does not reject it for the CR
 pub ab_cr_lf_is_not_lone : (now : Supply) (size : ℕ) (more : List ℕ)
     → Faults now (Line CrLfStrict) 0 size (97 ∷ 98 ∷ 13 ∷ 10 ∷ more) (LoneBreak 2) → ⊥
-ab_cr_lf_is_not_lone now size more (text, others, parts, (strict, (i, n, is, lone)), read) =
+ab_cr_lf_is_not_lone now size more (text, others, parts, (strict, (i, n, is, lone)), read, some) =
     cr_lf_not_lone size 2 i n (97 ∷ 98 ∷ 13 ∷ 10 ∷ more) text (is_ended now) (omega (arith, is))
     (omega arith) refl refl others parts lone

@@ -47,7 +47,7 @@ use Rattle.ascii_lines.proofs.HistoryLemmas.{AtEachRead-received, AtEachRead-wri
 use Rattle.ascii_lines.proofs.HistoryLemmas.{EndsInEmptyRead-writes, IsFlushed-after, IsFlushed-last}
 use Rattle.ascii_lines.proofs.HistoryLemmas.{received_of-bytes, received_of-writes, sent_of-bytes}
 use Rattle.ascii_lines.proofs.TurnsLemmas.{Turns-append, Turns-length, Turns-more, said-append}
-use Rattle.ascii_lines.proofs.TurnsLemmas.{some_length}
+use Rattle.ascii_lines.proofs.TurnsLemmas.{some_length, supply_ended}
 
 -- what was sent and held, and then more
 SentBy-after : (q : Bool) (a h x b h2 y : List ℕ) → a ++ h ≡ x → SentBy q b h2 (h ++ y)
@@ -79,10 +79,6 @@ then_written a b c bytes events gives writes grows aside = record {
       (tells-by received_of b.history c.history events [] grows
       (received_of-writes events writes)));
 }
-
-pub supply_ended : (is_at_end : Bool) → is_ended (supply_at is_at_end) ≡ is_at_end
-supply_ended true = refl
-supply_ended false = refl
 
 pub supply_reads : (is_at_end : Bool) → supply_at is_at_end ≢ supply.Failed
 supply_reads true is = let e : supply.Ended ≡ supply.Failed = is in cc
@@ -344,6 +340,9 @@ module _ {H : Type 0} (answers : H → Line → List Reply → Next → H → Ty
   module _ (place : Place H) (a b : OutputState) (s : Settled supply.Open place a)
       (lacks : Lacks endings size place.awaited place.start place.text)
       (buffer : b.buffer ≡ a.buffer) where
+    going : ¬ (IsOver place.awaited)
+    going over = subst (λ w. Lacks endings size w place.start place.text) over.1 lacks
+
     answered : Answered s.base.events
     answered = record {
       steps = s.base.steps;
@@ -380,7 +379,8 @@ module _ {H : Type 0} (answers : H → Line → List Reply → Next → H → Ty
               (append_assoc old.talk.held (received_of o.events) read
               ∙ ap (λ xs. old.talk.held ++ xs) (sym received))
               (Turns-more answers refuses endings size now
-              (first_place old handler (received_of o.events)) place o.steps read o.turns);
+              (first_place old handler (received_of o.events)) place o.steps read (λ _. going)
+              o.turns);
           grows = Grows-trans old.output.history a.history b.history o.events (read_of read) o.grows
               grows;
           prompt = AtEachRead-append Answered [] o.events (read_of read) o.prompt
@@ -452,7 +452,8 @@ module _ {H : Type 0} (answers : H → Line → List Reply → Next → H → Ty
                   (record (first_place old handler []) { text = xs }) o.steps (with_more place []))
                   (append-nil (old.talk.held ++ received_of o.events))
                   (Turns-more answers refuses endings size supply.Failed
-                  (first_place old handler (received_of o.events)) place o.steps [] o.turns);
+                  (first_place old handler (received_of o.events)) place o.steps []
+                  (λ _. going) o.turns);
               grows = subst (λ h. Grows old.output.history h o.events)
                   (sym (ap (λ (d : SourceState). d.history) same)) o.grows;
               prompt = o.prompt;

@@ -7,8 +7,10 @@ use Rattle.std.proofs.Math.Seq.{drop-length, take-append_seam}
 use Rattle.std.proofs.lemmas.Bool.{false≢true}
 use Rattle.std.proofs.Common.{get_or}
 use Rattle.std.proofs.lemmas.List.{get_or-drop, length-drop}
-use Rattle.std.proofs.lemmas.List.{length-take-le, take-append-drop, take-take, take_all}
+use Rattle.std.proofs.lemmas.List.{length-take-le, nil_from_length, take-append-drop, take-take}
 use Rattle.std.specs.Prelude.{IsErrAnd}
+use Rattle.std.proofs.lemmas.Str.Ascii.{IsAscii-nil}
+use Rattle.std.specs.Str.{IsAscii}
 use Rattle.ascii.proofs.EndingsLemmas.{FreeUpTo-more}
 use Rattle.ascii.specs.Endings.{FreeUpTo, IsFirstStop, any_text}
 use Rattle.ascii.specs.Lines.{Line}
@@ -20,12 +22,13 @@ use Rattle.ascii_lines.specs.LineBuffer.{IsUsable, WindowState}
 use Rattle.ascii_lines.specs.LineReader.{FindsEnd, StopsBy}
 use Rattle.ascii_lines.specs.Replies.{IsInputOf, IsRequest, Reply, Says, Saying, Step, at_end_before}
 use Rattle.ascii_lines.specs.Replies.{rejected, skipped, took}
-use Rattle.ascii_lines.specs.Skipping.{HasNoEnd, TakesPart, WhyNotSkipped}
-use Rattle.ascii_lines.specs.Turns.{Completes, Converses, Faults, Finds, GoesTo, IsOver, IsRequested}
-use Rattle.ascii_lines.specs.Turns.{IsSearchedFor, IsLookedFor, IsSound, IsTurn, IsTurnAt, Lacks, Looks}
-use Rattle.ascii_lines.specs.Turns.{TalkState, place_of, place_with}
-use Rattle.ascii_lines.specs.Turns.{Place, Rests, SkipTurn, SkipsIn, SkipsTo, Stops, TurnOutcome, Turns, Wants}
-use Rattle.ascii_lines.specs.Turns.{awaited_by, is_ended, left_of, place_at, window_at, with_more}
+use Rattle.ascii_lines.specs.Skipping.{HasNoEnd, IsFinal, TakesPart, WhyNotSkipped}
+use Rattle.ascii_lines.specs.Turns.{Completes, Converses, Faults, Finds, GoesTo, IsLookedFor}
+use Rattle.ascii_lines.specs.Turns.{IsOver, IsRequested, IsSearchedFor, IsSound, IsTurn, IsTurnAt}
+use Rattle.ascii_lines.specs.Turns.{Lacks, Looks, Place, Rests, SkipTurn, SkipsIn, SkipsTo, Stops}
+use Rattle.ascii_lines.specs.Turns.{TalkState, TurnOutcome, Turns, Wants, awaited_by, is_ended}
+use Rattle.ascii_lines.specs.Turns.{left_of, place_at, place_of, place_with, supply_at, window_at}
+use Rattle.ascii_lines.specs.Turns.{with_more}
 use Rattle.ascii_lines.specs.Wanted.{EndsAt, IsEndOf, IsOne, IsUnfit, MayBeLast, MayHave, MustRead}
 use Rattle.ascii_lines.specs.Wanted.{IsRefusal, IsSearched, LacksUpTo, MayFit, Rejects}
 use Rattle.ascii_lines.specs.declared.conversation.Awaited.{Awaited}
@@ -44,7 +47,7 @@ use Rattle.ascii_lines.specs.declared.skipping.PassEnd.TheVariants as end
 use Rattle.ascii_lines.proofs.GathersLemmas.{Gathers-nil}
 use Rattle.ascii_lines.proofs.ReplyLemmas.{Says-nil, Says-trans}
 use Rattle.ascii_lines.proofs.SkippingLemmas.{clean_more}
-use Rattle.ascii_lines.proofs.TakesLemmas.{end_rejects, takes_off, unfit_refuses}
+use Rattle.ascii_lines.proofs.TakesLemmas.{end_rejects, takes_off}
 use Rattle.ascii_lines.proofs.WantedLemmas.{ends_front, ends_whole, lacks_whole, may_front}
 use Rattle.ascii_lines.proofs.WantedLemmas.{must_read, rejects, searched_front, searched_none, usable_least}
 
@@ -55,6 +58,10 @@ said-append (took input said ∷ xs) ys =
 said-append (rejected error said ∷ xs) ys =
     ap (λ rs. said ++ rs) (said-append xs ys) ∙ sym (append_assoc said (said_in xs) (said_in ys))
 said-append (skipped bytes ∷ xs) ys = said-append xs ys
+
+pub supply_ended : (is_at_end : Bool) → is_ended (supply_at is_at_end) ≡ is_at_end
+supply_ended true = refl
+supply_ended false = refl
 
 -- ---- more bytes
 
@@ -107,15 +114,36 @@ no_end_before (b ∷ others) = refl
 
 faults_more : (now : Supply) (what : Wanted) (start size : ℕ) (text more : List ℕ)
     (error : LineError) → Faults supply.Open what start size text error
+    → (now ≡ supply.Ended → text ++ more ≡ [] → error ≡ fault.Incomplete 0)
     → Faults now what start size (text ++ more) error
-faults_more now what start size text more error (seen, others, is, why, read) = (
+faults_more now what start size text more error (seen, others, is, why, read, some) none = (
   seen,
   others ++ more,
   ap (λ xs. xs ++ more) is ∙ append_assoc seen others more,
   rejects_any what start size seen (at_end_before (others ++ more) (is_ended now)) error
       (subst (λ b. Rejects what start size seen b error) (no_end_before others) why),
   λ same. absurd (not_failed (read same).0),
+  none,
 )
+
+-- no bytes show an error in place of a line, after which a conversation goes on
+nothing_shown : (endings : Endings) (start size : ℕ) (is_at_end : Bool) (error : LineError)
+    → Rejects (wanted.Line endings) start size [] is_at_end error → IsFinal error
+nothing_shown endings start size is_at_end (fault.NotAscii place) (i, is, other) =
+    absurd (omega (arith, other.1.inside))
+nothing_shown endings start size is_at_end (fault.LoneBreak place) (strict, (i, n, is, lone)) =
+    absurd (elim lone.lone [
+      | inl feed ↦ omega (arith, feed.0, lone.inside)
+      | inr others ↦ elim others [
+        | inl cr ↦ omega (arith, cr.0, lone.inside)
+        | inr last ↦ omega (arith, last.0, lone.inside)
+      ]
+    ])
+nothing_shown endings start size is_at_end (fault.TooLong place) (is, over) =
+    absurd (omega (arith, over.0))
+nothing_shown endings start size is_at_end fault.TooFar why = tt
+nothing_shown endings start size is_at_end (fault.Incomplete n) why = tt
+nothing_shown endings start size is_at_end fault.Read why = tt
 
 why_more : (endings : Endings) (most start : ℕ) (bytes held more : List ℕ) (error : LineError)
     → error ≢ fault.Read → WhyNotSkipped endings most start bytes held error
@@ -174,12 +202,34 @@ module _ {H : Type 0} (answers : H → Line → List Reply → Next → H → Ty
   Turns-append a b c (x ∷ xs) ys first then =
       (first.0, first.1, Turns-append first.0 b c xs ys first.2 then)
 
-  -- the bytes that follow change no step
+  -- the bytes that follow change no step, nor does the end of the input if the conversation goes on
   turn-more : (a b : Place H) (step : Step) (more : List ℕ)
+      → (now ≡ supply.Ended → ¬ (IsOver b.awaited))
       → IsTurn answers refuses endings size supply.Open a step b
       → IsTurn answers refuses endings size now (with_more a more) step (with_more b more)
-  turn-more a b step more turn = go a.awaited step turn
+  turn-more a b step more apart turn = go a.awaited step turn
     where
+      shown : (what : Wanted) (asked then : Next) (error : LineError) → Wants endings asked what
+          → GoesTo asked error then b.awaited → Faults supply.Open what a.start size a.text error
+          → now ≡ supply.Ended → a.text ++ more ≡ [] → error ≡ fault.Incomplete 0
+      shown what asked then error wants goes (seen, others, is, why, read, some) ended none =
+          elim goes [
+            | inl on ↦
+                let line : what ≡ wanted.Line endings = subst (λ n. Wants endings n what) on.1 wants in
+                let empty : seen ≡ [] = nil_from_length seen (omega (
+                  arith,
+                  ap length none,
+                  length-append a.text more,
+                  ap length is,
+                  length-append seen others,
+                )) in
+                absurd (on.2 (nothing_shown endings a.start size (at_end_before others false) error
+                (subst (λ xs. Rejects (wanted.Line endings) a.start size xs (at_end_before others false)
+                error) empty
+                (subst (λ w. Rejects w a.start size seen (at_end_before others false) error) line why))))
+            | inr over ↦ absurd (apart ended (stop.Reader error, over.0))
+          ]
+
       stops : (asked : Next) (why : Stop) → Stops supply.Open asked a.text why
           → Stops now asked (a.text ++ more) why
       stops asked stop.Writer t = tt
@@ -211,7 +261,8 @@ module _ {H : Type 0} (answers : H → Line → List Reply → Next → H → Ty
         t.3,
         t.4,
         t.5,
-        faults_more now t.1 a.start size a.text more error t.6,
+        faults_more now t.1 a.start size a.text more error t.6
+            (shown t.1 asked t.0 error t.4 t.2 t.6),
         ap (λ xs. xs ++ more) t.7,
         t.8,
       )
@@ -231,14 +282,24 @@ module _ {H : Type 0} (answers : H → Line → List Reply → Next → H → Ty
       go (LineEnd then) (rejected error said) t = absurd t
       go (Nothing why) step t = absurd t
 
+  -- a conversation that is over takes no steps
+  over_stays : (a b : Place H) (steps : List Step)
+      → Turns answers refuses endings size supply.Open a steps b → IsOver a.awaited
+      → IsOver b.awaited
+  over_stays a b [] same over = subst (λ (p : Place H). IsOver p.awaited) (sym same) over
+  over_stays a b (x ∷ steps) turns over = absurd
+      (subst (λ w. IsTurnAt answers refuses endings size supply.Open w a x turns.0) over.1 turns.1)
+
   pub Turns-more : (a b : Place H) (steps : List Step) (more : List ℕ)
+      → (now ≡ supply.Ended → ¬ (IsOver b.awaited))
       → Turns answers refuses endings size supply.Open a steps b
       → Turns answers refuses endings size now (with_more a more) steps (with_more b more)
-  Turns-more a b [] more same = ap (λ (p : Place H). with_more p more) same
-  Turns-more a b (x ∷ steps) more turns = (
+  Turns-more a b [] more apart same = ap (λ (p : Place H). with_more p more) same
+  Turns-more a b (x ∷ steps) more apart turns = (
     with_more turns.0 more,
-    turn-more a turns.0 x more turns.1,
-    Turns-more turns.0 b steps more turns.2,
+    turn-more a turns.0 x more
+        (λ ended over. apart ended (over_stays turns.0 b steps turns.2 over)) turns.1,
+    Turns-more turns.0 b steps more apart turns.2,
   )
 
   turn-length : (a b : Place H) (step : Step) → IsTurn answers refuses endings size now a step b
@@ -267,11 +328,12 @@ module _ {H : Type 0} (answers : H → Line → List Reply → Next → H → Ty
 
   -- the steps of some bytes, and then those of more bytes, are the steps of both together
   pub feed-feed : (a b c : Place H) (xs ys : List Step) (more : List ℕ)
+      → (now ≡ supply.Ended → ¬ (IsOver b.awaited))
       → Turns answers refuses endings size supply.Open a xs b
       → Turns answers refuses endings size now (with_more b more) ys c
       → Turns answers refuses endings size now (with_more a more) (xs ++ ys) c
-  feed-feed a b c xs ys more first then =
-      Turns-append (with_more a more) (with_more b more) c xs ys (Turns-more a b xs more first) then
+  feed-feed a b c xs ys more apart first then = Turns-append (with_more a more) (with_more b more) c
+      xs ys (Turns-more a b xs more apart first) then
 
 -- ---- what is awaited
 
@@ -492,8 +554,9 @@ feed_joins {H} {K} answers refuses a b c x y z out mid said first more same size
       subst (λ text. Turns answers refuses a.endings a.size supply.Open
           (place_at a.awaited x a.start text) (one.steps ++ two.steps) (place_of c z))
           (append_assoc a.held first more)
-          (feed-feed answers refuses a.endings a.size supply.Open (place_with a x first) (place_of b y)
-          (place_of c z) one.steps two.steps more one.turns then),
+          (feed-feed answers refuses a.endings a.size supply.Open (place_with a x first)
+          (place_of b y) (place_of c z) one.steps two.steps more (λ is. absurd (not_ended is))
+          one.turns then),
       subst (λ replies. Says out replies said) (sym (said-append one.steps two.steps))
           (Says-trans out mid said (said_in one.steps) (said_in two.steps) one.says two.says),
     )
@@ -532,6 +595,9 @@ module _ {H K : Type 0} (answers : H → Line → List Reply → Next → H → 
         sym is ∙ ends in cc;
   }
 
+  unended : supply.Failed ≢ supply.Ended
+  unended is = let e : supply.Failed ≡ supply.Ended = is in cc
+
   -- the handler is told
   pub fail_asked : (awaited : Awaited) (asked then : Next) (gave : List Reply)
       → awaited ≡ Input asked → Lacks endings size awaited start text → Says out gave said
@@ -554,7 +620,7 @@ module _ {H K : Type 0} (answers : H → Line → List Reply → Next → H → 
         request,
         refl,
         tells,
-        (text, [], sym (append-nil text), must, λ _. (refl, refl)),
+        (text, [], sym (append-nil text), must, λ _. (refl, refl), λ is. absurd (unended is)),
         refl,
         refl,
       )
@@ -565,7 +631,7 @@ module _ {H K : Type 0} (answers : H → Line → List Reply → Next → H → 
         request,
         refl,
         tells,
-        (text, [], sym (append-nil text), must, λ _. (refl, refl)),
+        (text, [], sym (append-nil text), must, λ _. (refl, refl), λ is. absurd (unended is)),
         refl,
         refl,
       )
@@ -618,41 +684,32 @@ pub some_length : (text : List ℕ) → text ≢ [] → 0 < length text
 some_length [] some = absurd (some refl)
 some_length (b ∷ text) some = omega arith
 
-last_some : (endings : Endings) (asked : Next) (what : Wanted) (text : List ℕ)
-    → Wants endings asked what → MayBeLast what true → (asked ≡ next.Line → text ≢ [])
-    → 0 < length text
-last_some endings next.Line what text wants last some = some_length text (some refl)
-last_some endings (next.Part count) what text wants last some =
-    absurd (subst (λ w. MayBeLast w true) wants last)
-last_some endings next.Close what text wants last some = absurd wants
-
 none_left : (text left : List ℕ) (n : ℕ) → n ≡ length text → left ≡ drop n text → left ≡ []
 none_left text left n all rest = rest ∙ (ap (λ k. drop k text) all ∙ drop-length text)
 
 module _ {H K : Type 0} (answers : H → Line → List Reply → Next → H → Type 0)
     (refuses : H → LineError → List Reply → Next → H → Type 0) (endings : Endings) (size : ℕ)
-    (now : Supply) (handler last : H) (start : ℕ) (text : List ℕ) (out said : Saying K) where
+    (ended : Bool) (handler last : H) (start : ℕ) (text : List ℕ) (out said : Saying K) where
+  abbrev now : Supply
+  now = supply_at ended
+
   pub turn_takes : (asked : Next) (what : Wanted) (n end : ℕ) (input : Line) (gave : List Reply)
       (then : Next) (given left : List ℕ) → Wants endings asked what → IsRequested (Input asked)
-      → (now ≡ supply.Ended → asked ≡ next.Line → text ≢ [])
-      → (buffer : WindowState) → buffer.held ≡ text → Finds now what start buffer n end
+      → (ended ≡ true → text ≢ [])
+      → (buffer : WindowState) → buffer.held ≡ text → Finds ended what start buffer n end
       → given ≡ take n text → left ≡ drop n text
       → (IsOne what given → IsInputOf what given input) → Says out gave said
       → answers handler input gave then last → IsRequest then
       → TurnOutcome answers refuses endings size now (place_at (Input asked) handler start text) out
       true (place_at (awaited_by then) last end left) said
-  turn_takes asked what n end input gave then given left wants asks some buffer same finds front rest
-      is says tells request =
-      let found : Finds now what start (record buffer { held = text }) n end =
-      subst (λ xs. Finds now what start (record buffer { held = xs }) n end) same finds in
+  turn_takes asked what n end input gave then given left wants asks some buffer same finds front
+      rest is says tells request =
+      let found : Finds ended what start (record buffer { held = text }) n end =
+      subst (λ xs. Finds ended what start (record buffer { held = xs }) n end) same finds in
       let long : length given ≡ n = ap length front ∙ length-take-le n text found.within in
       let low : 0 < n = elim found.stops [
         | inl ends ↦ ends_some endings asked what (take n text) n wants asks ends
-        | inr last ↦ omega (
-          arith,
-          last.1,
-          last_some endings asked what text wants last.2 (some last.0),
-        )
+        | inr last ↦ omega (arith, last.1, some_length text (some last.0))
       ] in
       let one : IsOne what given = subst (IsOne what) (sym front) (found.one (λ none.
       absurd (omega (arith, ap length none, long, ap length front, low)))) in
@@ -661,7 +718,7 @@ module _ {H K : Type 0} (answers : H → Line → List Reply → Next → H → 
       let completes : Completes now what given left = elim found.stops [
         | inl ends ↦ inl (subst (EndsAt what given) (sym long)
             (subst (λ xs. EndsAt what xs n) (sym front) ends))
-        | inr last ↦ inr (last.0, none_left text left n last.1 rest, last.2)
+        | inr last ↦ inr (ap supply_at last.0, none_left text left n last.1 rest, last.2)
       ] in (
         took input gave,
         (
@@ -684,55 +741,109 @@ module _ {H K : Type 0} (answers : H → Line → List Reply → Next → H → 
 
   pub turn_faults : (asked : Next) (what : Wanted) (error : LineError) (gave : List Reply)
       (then : Next) (after : Awaited) (buffer : WindowState) → buffer.held ≡ text
-      → buffer.size ≡ size → Wants endings asked what → Looks now what start buffer (Err error)
+      → (ended ≡ true → text ≢ []) → buffer.size ≡ size → Wants endings asked what
+      → Looks ended what start buffer (Err error)
       → Says out gave said → refuses handler error gave then last → IsRequest then
       → GoesTo asked error then after
       → TurnOutcome answers refuses endings size now (place_at (Input asked) handler start text) out
       true (place_at after last start text) said
-  turn_faults asked what error gave then after buffer same sized wants looks says tells request goes = (
-    rejected error gave,
-    (
-      then,
-      what,
-      goes,
-      request,
-      wants,
-      tells,
-      subst (λ k. Faults now what start k text error) sized
-          (subst (λ xs. Faults now what start buffer.size xs error) same looks),
-      refl,
-      refl,
-    ),
-    subst (λ rs. Says out rs said) (sym (append-nil gave)) says,
-    elim goes [
-      | inl e ↦ subst (λ a. IsSound now a text) (sym e.0) (sound_line now then text request)
-      | inr e ↦ subst (λ a. IsSound now a text) (sym e.0) (sound_fault now error text)
-    ],
-    elim goes [
-      | inl e ↦ subst (λ a. left_of a text < left_of (Input asked) text) (sym e.0) (omega arith)
-      | inr e ↦ subst (λ a. left_of a text < left_of (Input asked) text) (sym e.0) (omega arith)
-    ],
-  )
+  turn_faults asked what error gave then after buffer same some sized wants looks says tells request
+      goes = (
+        rejected error gave,
+        (
+          then,
+          what,
+          goes,
+          request,
+          wants,
+          tells,
+          (
+            text,
+            [],
+            sym (append-nil text),
+            subst (λ b. Rejects what start size text b error) (sym (supply_ended ended))
+                (subst (λ k. Rejects what start k text ended error) sized
+                (subst (λ xs. Rejects what start buffer.size xs ended error) same looks.0)),
+            λ is. absurd (looks.1 is),
+            λ is none. absurd (some (sym (supply_ended ended) ∙ ap is_ended is) none),
+          ),
+          refl,
+          refl,
+        ),
+        subst (λ rs. Says out rs said) (sym (append-nil gave)) says,
+        elim goes [
+          | inl e ↦ subst (λ a. IsSound now a text) (sym e.0) (sound_line now then text request)
+          | inr e ↦ subst (λ a. IsSound now a text) (sym e.0) (sound_fault now error text)
+        ],
+        elim goes [
+          | inl e ↦ subst (λ a. left_of a text < left_of (Input asked) text) (sym e.0) (omega arith)
+          | inr e ↦ subst (λ a. left_of a text < left_of (Input asked) text) (sym e.0) (omega arith)
+        ],
+      )
 
   -- there are no more lines
-  pub turn_ends : (awaited : Awaited) → awaited ≡ Input next.Line → now ≡ supply.Ended → text ≡ []
-      → TurnOutcome answers refuses endings size now (place_at awaited handler start text) out
-      true (place_at (Nothing stop.EndOfInput) handler start text) out
-  turn_ends awaited is ended none = subst
-      (λ a. TurnOutcome answers refuses endings size now (place_at a handler start text) out true
-      (place_at (Nothing stop.EndOfInput) handler start text) out) (sym is) (
-        skipped [],
-        (stop.EndOfInput, refl, (refl, ended, none), refl),
-        Says-nil out,
-        sound_end now text ended none,
+  pub turn_ends : (asked : Next) → ((n : ℕ) → asked ≡ next.Part n → ⊥) → IsRequested (Input asked)
+      → now ≡ supply.Ended → text ≡ []
+      → TurnOutcome answers refuses endings size now (place_at (Input asked) handler start text)
+      out true (place_at (Nothing stop.EndOfInput) handler start text) out
+  turn_ends (next.Part n) other asks ended none = absurd (other n refl)
+  turn_ends next.Close other asks ended none = absurd asks
+  turn_ends next.Line other asks ended none = (
+    skipped [],
+    (stop.EndOfInput, refl, (refl, ended, none), refl),
+    Says-nil out,
+    sound_end now text ended none,
+    omega arith,
+  )
+
+  -- there is no part
+  pub turn_lacks : (asked : Next) (n : ℕ) (gave : List Reply) (then : Next) → asked ≡ next.Part n
+      → IsRequested (Input asked) → now ≡ supply.Ended → text ≡ [] → Says out gave said
+      → refuses handler (fault.Incomplete 0) gave then last → IsRequest then
+      → TurnOutcome answers refuses endings size now (place_at (Input asked) handler start text) out
+      true (place_at (Nothing (stop.Reader (fault.Incomplete 0))) last start text) said
+  turn_lacks asked n gave then is asks ended none says tells request =
+      let some : IsRequest (next.Part n) = subst (λ a. IsRequested (Input a)) is asks in
+      let error = fault.Incomplete 0 in
+      subst (λ a. TurnOutcome answers refuses endings size now (place_at (Input a) handler start text)
+      out true (place_at (Nothing (stop.Reader error)) last start text) said) (sym is) (
+      let cut : Rejects (wanted.Part n) start size text (is_ended now) error = (
+        sym (ap length none),
+        (
+          ap is_ended ended,
+          subst IsAscii (sym none) IsAscii-nil,
+          omega (arith, ap length none, some),
+        ),
+      ) in (
+        rejected error gave,
+        (
+          then,
+          wanted.Part n,
+          inr (refl, λ _. inl tt),
+          request,
+          refl,
+          tells,
+          (
+            text,
+            [],
+            sym (append-nil text),
+            cut,
+            λ is. let e : error ≡ fault.Read = is in cc,
+            λ _ _. refl,
+          ),
+          refl,
+          refl,
+        ),
+        subst (λ rs. Says out rs said) (sym (append-nil gave)) says,
+        sound_fault now error text,
         omega arith,
-      )
+      ))
 
   pub turn_skips : (result : Bool) (awaited : Awaited) (then : Next) (after : Awaited) (at : ℕ)
       (left : List ℕ) → awaited ≡ LineEnd then → IsRequested awaited
       → SkipTurn now (any_text endings) then start text result after at left
-      → TurnOutcome answers refuses endings size now (place_at awaited handler start text) out result
-      (place_at after handler at left) out
+      → TurnOutcome answers refuses endings size now (place_at awaited handler start text) out
+      result (place_at after handler at left) out
   turn_skips true awaited then after at left is request t =
       subst (λ a. TurnOutcome answers refuses endings size now (place_at a handler start text) out
       true (place_at after handler at left) out) (sym is)
@@ -779,45 +890,58 @@ module _ {H K : Type 0} (answers : H → Line → List Reply → Next → H → 
 abbrev source_done : SourceState
 source_done = record { rest = Some []; failures = 0; history = None; aside = no_aside }
 
-module _ (now : Supply) (what : Wanted) (start : ℕ) (buffer : WindowState) where
-  -- all bytes that are held show an error
-  pub look_faults : (error : LineError)
-      → Rejects what start buffer.size buffer.held (is_ended now) error
-      → (error ≡ fault.Read → now ≡ supply.Failed) → Looks now what start buffer (Err error)
-  look_faults error why read =
-      (buffer.held, [], sym (append-nil buffer.held), why, λ is. (read is, refl))
+module _ (ended : Bool) (what : Wanted) (start : ℕ) (buffer : WindowState) where
+  -- a part does not fit
+  pub unfit_looks : (error : LineError) → IsUnfit what start buffer.size error
+      → Looks ended what start buffer (Err error)
+  unfit_looks error unfit = go what error unfit
+    where
+      go : (what : Wanted) (error : LineError) → IsUnfit what start buffer.size error
+          → Looks ended what start buffer (Err error)
+      go (wanted.Part n) (fault.TooLong place) unfit =
+          (unfit, λ is. let e : fault.TooLong place ≡ fault.Read = is in cc)
+      go (wanted.Part n) fault.TooFar unfit =
+          (unfit, λ is. let e : fault.TooFar ≡ fault.Read = is in cc)
+      go (wanted.Part n) (fault.NotAscii place) unfit = absurd unfit
+      go (wanted.Part n) (fault.LoneBreak place) unfit = absurd unfit
+      go (wanted.Part n) (fault.Incomplete count) unfit = absurd unfit
+      go (wanted.Part n) fault.Read unfit = absurd unfit
+      go (wanted.Line endings) error unfit = absurd unfit
+      go (wanted.Bytes endings) error unfit = absurd unfit
 
   pub err_looks : (result : Result (Option (ℕ × ℕ)) LineError) (error : LineError)
-      → IsErrAnd result (λ e. e ≡ error) → Looks now what start buffer (Err error)
-      → Looks now what start buffer result
+      → IsErrAnd result (λ e. e ≡ error) → Looks ended what start buffer (Err error)
+      → Looks ended what start buffer result
   err_looks (Ok found) error is why = absurd is
   err_looks (Err e) error is why =
-      subst (λ e. Looks now what start buffer (Err e)) (sym is) why
+      subst (λ e. Looks ended what start buffer (Err e)) (sym is) why
 
-  module _ (n : ℕ) (is_last : Bool) (finds : FindsEnd what (window_at now buffer) n is_last)
-      (last : is_last ≡ true → now ≡ supply.Ended) where
-    pub end_looks : (error : LineError) → IsEndOf what start (take n buffer.held) is_last (Err error)
-        → Looks now what start buffer (Err error)
-    end_looks error ends = look_faults error
-        (end_rejects what start (window_at now buffer) n is_last finds 0 error ends).0
-        (λ is. absurd (subst (λ e. IsEndOf what start (take n buffer.held) is_last (Err e)) is ends))
+  module _ (n : ℕ) (is_last : Bool) (finds : FindsEnd what (window_at ended buffer) n is_last)
+      (last : is_last ≡ true → ended ≡ true) where
+    pub end_looks : (error : LineError)
+        → IsEndOf what start (take n buffer.held) is_last (Err error)
+        → Looks ended what start buffer (Err error)
+    end_looks error ends = (
+      (end_rejects what start (window_at ended buffer) n is_last finds 0 error ends).0,
+      λ is. subst (λ e. IsEndOf what start (take n buffer.held) is_last (Err e)) is ends,
+    )
 
-    stops_by : (last' : Bool) → is_last ≡ last' → StopsBy what (window_at now buffer) n last'
+    stops_by : (last' : Bool) → is_last ≡ last' → StopsBy what (window_at ended buffer) n last'
         → MayBeLast what last'
         → EndsAt what (take n buffer.held) n
-        ⊎ ((now ≡ supply.Ended) × (n ≡ length buffer.held) × MayBeLast what true)
+        ⊎ ((ended ≡ true) × (n ≡ length buffer.held) × MayBeLast what true)
     stops_by false is stops may = inl (ends_front buffer.held n n (omega arith) what stops)
     stops_by true is stops may = inr (last is, stops.0, may)
 
     pub look_ends : (end : ℕ) → IsEndOf what start (take n buffer.held) is_last (Ok end)
-        → Finds now what start buffer n end
+        → Finds ended what start buffer n end
     look_ends end ends =
         let long : length (take n buffer.held) ≡ n = length-take-le n buffer.held finds.within in
-        let window = window_at now buffer in
+        let window = window_at ended buffer in
         let t = takes_off what start window window
         (record window { given = take n buffer.held; held = drop n buffer.held }) source_done
         source_done n is_last finds
-        (Gathers-nil (MustRead what start buffer.size) buffer.held (is_ended now) source_done
+        (Gathers-nil (MustRead what start buffer.size) buffer.held ended source_done
         (λ _. refl)) refl refl refl refl refl end ends in
         record {
           within = finds.within;
@@ -875,7 +999,7 @@ module _ (now : Supply) (what : Wanted) (start : ℕ) (buffer : WindowState) whe
         whole_of (wanted.Part n) free = tt
 
     pub find_ends : (n : ℕ) → (n ≤ length part) × EndsAt what part n
-        → FindsEnd what (window_at now buffer) n false
+        → FindsEnd what (window_at ended buffer) n false
     find_ends n found = record {
       within = omega (arith, found.0, usable.within);
       fits = omega (arith, found.0, usable.fits);
@@ -888,28 +1012,30 @@ module _ (now : Supply) (what : Wanted) (start : ℕ) (buffer : WindowState) whe
 
     pub refusal_looks : LacksUpTo what part (length part) → length part < length buffer.held
         → (error : LineError) → IsRefusal start (length part) buffer.size error
-        → Looks now what start buffer (Err error)
-    refusal_looks lacks less error refusal = look_faults error
-        (rejects what start buffer.size buffer part usable refl lacks less (is_ended now) error
-        refusal)
-        (λ is. absurd (subst (IsRefusal start (length part) buffer.size) is refusal))
+        → Looks ended what start buffer (Err error)
+    refusal_looks lacks less error refusal = (
+      rejects what start buffer.size buffer part usable refl lacks less ended error refusal,
+      λ is. subst (IsRefusal start (length part) buffer.size) is refusal,
+    )
 
-    pub failed_looks : now ≡ supply.Failed → MayFit what start buffer.size
+    -- more bytes have to come
+    pub look_waits : ended ≡ false → MayFit what start buffer.size
         → length buffer.held ≤ length part → LacksUpTo what part (length part)
-        → Looks now what start buffer (Err fault.Read)
-    failed_looks is fit long lacks = look_faults fault.Read
-        (must_read what start buffer.size buffer part usable refl lacks fit long) (λ _. is)
+        → Looks ended what start buffer (Ok None)
+    look_waits is fit long lacks =
+        (is, must_read what start buffer.size buffer part usable refl lacks fit long)
 
     -- the bytes that are left are all that there will be
-    pub find_last : now ≡ supply.Ended → length buffer.held ≤ length part
-        → LacksUpTo what part (length part) → FindsEnd what (window_at now buffer) (length part) true
+    pub find_last : ended ≡ true → length buffer.held ≤ length part
+        → LacksUpTo what part (length part)
+        → FindsEnd what (window_at ended buffer) (length part) true
     find_last is long lacks = record {
       within = usable.within;
       fits = usable.fits;
       may = subst (MayHave what) usable.front usable.may;
       stops = (
         omega (arith, long, usable.within),
-        ap is_ended is,
+        is,
         lacks_whole buffer.held (length part) (length part) (omega arith) what
             (subst (λ xs. LacksUpTo what xs (length part)) usable.front lacks),
       );

@@ -4,13 +4,13 @@ use Rattle.std.specs.Prelude.{◌≡◌, ◌≢◌, ◌⊎◌, ℕ, ◌+◌, ◌
 use Rattle.std.specs.Prelude.{Bool, Err, None, Ok, Some, drop, false, length, take, true, ⊤}
 use Rattle.std.specs.declared.option.Option.{Option}
 use Rattle.std.specs.declared.result.Result.{Result}
-use Rattle.ascii.specs.Endings.{FreeUpTo, IsFirstStop, any_text}
+use Rattle.ascii.specs.Endings.{IsFirstStop, any_text}
 use Rattle.ascii.specs.Lines.{Line}
 use Rattle.ascii.specs.declared.iter.spans.Endings.{Endings}
 use Rattle.ascii_lines.specs.Exchanges.{said_in}
 use Rattle.ascii_lines.specs.LineBuffer.{WindowState}
-use Rattle.ascii_lines.specs.Replies.{IsInputOf, IsRequest, Reply, Says, Saying, Step, at_end_before}
-use Rattle.ascii_lines.specs.Replies.{rejected, skipped, took}
+use Rattle.ascii_lines.specs.Replies.{IsInputOf, IsRequest, Reply, Says, Saying, Step}
+use Rattle.ascii_lines.specs.Replies.{at_end_before, rejected, skipped, took}
 use Rattle.ascii_lines.specs.Skipping.{HasNoEnd, IsCleanCut, IsFinal, WhyNotSkipped}
 use Rattle.ascii_lines.specs.Wanted.{EndsAt, IsOne, MayBeLast, MayHave, MustRead, Rejects}
 use Rattle.ascii_lines.specs.declared.conversation.Awaited.{Awaited}
@@ -18,7 +18,7 @@ use Rattle.ascii_lines.specs.declared.conversation.Awaited.TheVariants.{Input, L
 use Rattle.ascii_lines.specs.declared.conversation.Supply.{Supply}
 use Rattle.ascii_lines.specs.declared.conversation.Supply.TheVariants as supply
 use Rattle.ascii_lines.specs.declared.line_reader.LineError.{LineError}
-use Rattle.ascii_lines.specs.declared.line_reader.LineError.TheVariants.{Read}
+use Rattle.ascii_lines.specs.declared.line_reader.LineError.TheVariants.{Incomplete, Read}
 use Rattle.ascii_lines.specs.declared.serving.Next.{Next}
 use Rattle.ascii_lines.specs.declared.serving.Next.TheVariants as next
 use Rattle.ascii_lines.specs.declared.serving.Stop.{Stop}
@@ -64,11 +64,13 @@ is_ended other = false
 
 -- the bytes, which start at the position `start` of the input, have this error in place of what is
 -- wanted: some of them show it, or all of them and the end of the input. `Read`: more bytes were to
--- be read, and could not be
+-- be read, and could not be. If there are none at the end of the input, it is `Incomplete` of 0,
+-- also if the part is longer than the buffer
 abbrev pub Faults : Supply → Wanted → ℕ → ℕ → List ℕ → LineError → Type 0
 Faults now what start size text error = (seen others : List ℕ) × (text ≡ seen ++ others)
     × Rejects what start size seen (at_end_before others (is_ended now)) error
     × (error ≡ Read → (now ≡ supply.Failed) × (others ≡ []))
+    × (now ≡ supply.Ended → text ≡ [] → error ≡ Incomplete 0)
 
 -- what is awaited after an error in place of what was asked for, where the handler asks for `then`:
 -- the end of the line at fault; or nothing
@@ -85,8 +87,8 @@ GoesTo asked error then after =
 abbrev pub SkipsTo : Supply → Endings → Next → ℕ → List ℕ → List ℕ → Awaited → Type 0
 SkipsTo now endings then start bytes left after =
     ((after ≡ awaited_by then) × IsFirstStop endings bytes (length bytes))
-    ⊎ ((after ≡ LineEnd then) × FreeUpTo endings bytes (length bytes) × IsCleanCut endings bytes left)
-    ⊎ ((after ≡ Nothing stop.EndOfInput) × (now ≡ supply.Ended) × FreeUpTo endings bytes (length bytes)
+    ⊎ ((after ≡ LineEnd then) × HasNoEnd endings bytes × IsCleanCut endings bytes left)
+    ⊎ ((after ≡ Nothing stop.EndOfInput) × (now ≡ supply.Ended) × HasNoEnd endings bytes
     × (left ≡ []))
     ⊎ ((error : LineError) × (after ≡ Nothing (stop.Reader error))
     × (error ≡ Read → now ≡ supply.Failed)
@@ -103,9 +105,9 @@ Stops now asked text other = ⊥
 module _ {H : Type 0} (answers : H → Line → List Reply → Next → H → Type 0)
     (refuses : H → LineError → List Reply → Next → H → Type 0) (endings : Endings) (size : ℕ)
     (now : Supply) where
-  -- one step of a conversation in which `awaited` is awaited, with a buffer of `size` bytes. `took`:
-  -- the handler is given the line or part that it asked for. `rejected`: it is told of an error in
-  -- its place. `skipped`: bytes of a line that was rejected are read over; or none, and the
+  -- one step of a conversation in which `awaited` is awaited, with a buffer of `size` bytes.
+  -- `took`: the handler is given the line or part that it asked for. `rejected`: it is told of an
+  -- error in its place. `skipped`: bytes of a line that was rejected are read over; or none, and the
   -- conversation stops
   abbrev pub IsTurnAt : Awaited → Place H → Step → Place H → Type 0
   IsTurnAt (Input asked) old (took input said) new = (then : Next) × (what : Wanted)
@@ -136,14 +138,14 @@ module _ {H : Type 0} (answers : H → Line → List Reply → Next → H → Ty
 
 -- ---- when no step can be taken
 
--- what is awaited is not among the bytes, which start at the position `start` of the input, nor is a
--- fault of it: they fit in the buffer of `size` bytes, and no line ends in them, or they are fewer
+-- what is awaited is not among the bytes, which start at the position `start` of the input, nor is
+-- a fault of it: they fit in the buffer of `size` bytes, and no line ends in them, or they are fewer
 -- than the part. Of a line that was rejected there is one byte at most
 abbrev pub Lacks : Endings → ℕ → Awaited → ℕ → List ℕ → Type 0
 Lacks endings size (Input next.Line) start text = MustRead (wanted.Line endings) start size text
 Lacks endings size (Input (next.Part n)) start text = MustRead (wanted.Part n) start size text
 Lacks endings size (LineEnd then) start text =
-    FreeUpTo (any_text endings) text (length text) × (length text ≤ 1) × (start + length text < 2 ^ 64)
+    HasNoEnd (any_text endings) text × (length text ≤ 1) × (start + length text < 2 ^ 64)
 Lacks endings size awaited start text = ⊥
 
 -- a handler has asked for what is awaited: a line, or a part of one byte at least
@@ -233,8 +235,8 @@ stop_of other = None
 
 -- ---- cited by private functions only
 
--- `bytes` are all of what is wanted, or a line without an ending at the end of the input: `left` are
--- those after them
+-- `bytes` are all of what is wanted, or a line without an ending at the end of the input: `left`
+-- are those after them
 abbrev pub Completes : Supply → Wanted → List ℕ → List ℕ → Type 0
 Completes now what bytes left = EndsAt what bytes (length bytes)
     ⊎ ((now ≡ supply.Ended) × (left ≡ []) × MayBeLast what true)
@@ -271,7 +273,8 @@ module _ {H K : Type 0} (answers : H → Line → List Reply → Next → H → 
   abbrev pub TurnOutcome : Place H → Saying K → Bool → Place H → Saying K → Type 0
   TurnOutcome old out true new said = (step : Step)
       × IsTurn answers refuses endings size now old step new × Says out (said_in (step ∷ [])) said
-      × IsSound now new.awaited new.text × (left_of new.awaited new.text < left_of old.awaited old.text)
+      × IsSound now new.awaited new.text
+      × (left_of new.awaited new.text < left_of old.awaited old.text)
   TurnOutcome old out false new said = (new ≡ old) × (said ≡ out) × (now ≡ supply.Open)
       × Lacks endings size old.awaited old.start old.text
 
@@ -282,32 +285,33 @@ IsSearchedFor endings size awaited start text searched = (searched ≡ 0)
 
 -- the first `searched` bytes of a buffer were searched for what is wanted, or none were
 abbrev pub IsLookedFor : Wanted → ℕ → WindowState → ℕ → Type 0
-IsLookedFor what start buffer searched = (searched ≡ 0)
-    ⊎ ((searched ≤ length buffer.held) × MustRead what start buffer.size (take searched buffer.held))
+IsLookedFor what start buffer searched = (searched ≡ 0) ⊎ ((searched ≤ length buffer.held)
+    × MustRead what start buffer.size (take searched buffer.held))
 
 -- a buffer, with whether the input has ended
-abbrev pub window_at : Supply → WindowState → WindowState
-window_at now buffer = record buffer { is_at_end = is_ended now }
+abbrev pub window_at : Bool → WindowState → WindowState
+window_at is_ended buffer = record buffer { is_at_end = is_ended }
 
--- what is wanted is the first `n` bytes that a buffer holds, and ends at the position `end`; or they
--- are the last of the input
-pub record Finds (now : Supply) (what : Wanted) (start : ℕ) (buffer : WindowState) (n end : ℕ)
+-- what is wanted is the first `n` bytes that a buffer holds, and ends at the position `end`; or
+-- they are the last of the input
+pub record Finds (is_ended : Bool) (what : Wanted) (start : ℕ) (buffer : WindowState) (n end : ℕ)
     : Type 0 where
   pub within : n ≤ length buffer.held
   pub may : MayHave what (take n buffer.held)
   pub one : take n buffer.held ≢ [] → IsOne what (take n buffer.held)
   pub end_is : end ≡ start + n
   pub stops : EndsAt what (take n buffer.held) n
-      ⊎ ((now ≡ supply.Ended) × (n ≡ length buffer.held) × MayBeLast what true)
+      ⊎ ((is_ended ≡ true) × (n ≡ length buffer.held) × MayBeLast what true)
 
 -- what looking into a buffer finds: nothing before more bytes come; or the number of bytes and the
--- position after them; or a fault
-abbrev pub Looks
-    : Supply → Wanted → ℕ → WindowState → Result (Option (ℕ × ℕ)) LineError → Type 0
-Looks now what start buffer (Ok None) =
-    (now ≡ supply.Open) × MustRead what start buffer.size buffer.held
-Looks now what start buffer (Ok (Some found)) = Finds now what start buffer found.0 found.1
-Looks now what start buffer (Err error) = Faults now what start buffer.size buffer.held error
+-- position after them; or a fault, which is not that of a read
+abbrev pub Looks : Bool → Wanted → ℕ → WindowState → Result (Option (ℕ × ℕ)) LineError → Type 0
+Looks is_ended what start buffer (Ok None) =
+    (is_ended ≡ false) × MustRead what start buffer.size buffer.held
+Looks is_ended what start buffer (Ok (Some found)) =
+    Finds is_ended what start buffer found.0 found.1
+Looks is_ended what start buffer (Err error) =
+    Rejects what start buffer.size buffer.held is_ended error × (error ≢ Read)
 
 -- as many of `bytes` as there was room for, which are `n`, are held after those that were
 pub record PutsBehind (old new : WindowState) (bytes : List ℕ) (n : ℕ) : Type 0 where
@@ -319,8 +323,8 @@ pub record PutsBehind (old new : WindowState) (bytes : List ℕ) (n : ℕ) : Typ
   pub size : new.size ≡ old.size
   pub at_end : new.is_at_end ≡ old.is_at_end
 
--- how many bytes of a line that was rejected are read over, and what is awaited then; or none before
--- more bytes come
+-- how many bytes of a line that was rejected are read over, and what is awaited then; or none
+-- before more bytes come
 abbrev pub SkipsIn : Supply → Endings → Next → ℕ → List ℕ → Option (ℕ × Awaited) → Type 0
 SkipsIn now endings then start text None = (now ≡ supply.Open) × HasNoEnd endings text
     × (length text ≤ 1) × (start + length text < 2 ^ 64)

@@ -14,11 +14,12 @@
 //! of the bytes that were fed, of what is awaited, and of the replies; no call has a condition. `serve` is a loop over a
 //! conversation, for a device of both directions.
 
-ghost use Rattle.std.specs.Prelude.{◌≡◌, ◌≢◌, ◌⊎◌, ◌<◌, ◌≤◌, ◌++◌, ◌↔◌, [], IfOk, IsTrue, length, take, true};
+ghost use Rattle.std.specs.Prelude.{◌≡◌, ◌≢◌, ◌⊎◌, ◌<◌, ◌≤◌, ◌++◌, ◌↔◌, [], IfOk, IsTrue};
+ghost use Rattle.std.specs.Prelude.{length, take, true};
 ghost use Rattle.ascii.specs.Endings.{any_text};
 ghost use Rattle.ascii_lines.specs.LineReader.{FindsEnd};
 ghost use Rattle.ascii_lines.specs.Turns.{GoesTo, IsLookedFor, IsOver, Looks, SkipsIn};
-ghost use Rattle.ascii_lines.specs.Turns.{awaited_by, fresh_talk, window_at};
+ghost use Rattle.ascii_lines.specs.Turns.{awaited_by, fresh_talk, supply_at, window_at};
 
 use crate::line_buffer::LineBuffer;
 use crate::line_reader::LineError;
@@ -140,8 +141,7 @@ impl<A: Allocator> Conversation<A> {
         }
         let searched = self.dialogue.buffer.len();
         let n = self.dialogue.buffer.put(bytes);
-        self.dialogue
-            .converse(handler, replies, Supply::Open, searched);
+        self.dialogue.converse(handler, replies, false, searched);
         n
     }
 
@@ -170,8 +170,7 @@ impl<A: Allocator> Conversation<A> {
         ensures at_end { self.new.is_at_end ≡ self.old.is_at_end }
     {
         let searched = self.dialogue.buffer.len();
-        self.dialogue
-            .converse(handler, replies, Supply::Ended, searched);
+        self.dialogue.converse(handler, replies, true, searched);
     }
 
     /// Tells the handler that the source of the input has failed, by the error `Read`, in place of what it asked for.
@@ -212,8 +211,8 @@ impl<A: Allocator> Conversation<A> {
         ensures at_end { self.new.is_at_end ≡ self.old.is_at_end }
     {
         self.dialogue.awaited = Awaited::Input(Next::Line);
-        let supply = self.dialogue.supply();
-        self.dialogue.converse(handler, replies, supply, 0);
+        let is_ended = self.dialogue.buffer.is_at_end();
+        self.dialogue.converse(handler, replies, is_ended, 0);
     }
 
     /// Reads the device of the replies once, and carries out every step that the bytes complete.
@@ -230,8 +229,8 @@ impl<A: Allocator> Conversation<A> {
         let searched = self.dialogue.buffer.len();
         match replies.fill(&mut self.dialogue.buffer) {
             Ok(()) => {
-                let supply = self.dialogue.supply();
-                self.dialogue.converse(handler, replies, supply, searched);
+                let is_ended = self.dialogue.buffer.is_at_end();
+                self.dialogue.converse(handler, replies, is_ended, searched);
             }
             Err(_) => self.dialogue.fail(handler, replies),
         }
@@ -295,17 +294,6 @@ impl<A: Allocator> Dialogue<A> {
         matches!(self.awaited, Awaited::Nothing(_))
     }
 
-    /// Whether more bytes can come: they cannot once a read has returned none.
-    fn supply(&self) -> Supply
-        ensures { result ≡ supply_at self.now.buffer.is_at_end }
-    {
-        if self.buffer.is_at_end() {
-            Supply::Ended
-        } else {
-            Supply::Open
-        }
-    }
-
     /// Tells the handler that the source has failed, if it awaits an input.
     fn fail<H: Handler, K: Sink, B: Allocator>(
         &mut self,
@@ -347,15 +335,17 @@ impl<A: Allocator> Dialogue<A> {
         &mut self,
         handler: &mut H,
         replies: &mut Replies<K, B>,
-        supply: Supply,
+        is_ended: bool,
         searched: usize,
     )
         requires request { IsRequested self.old.awaited }
-        requires used { self.old.awaited ≡ Awaited.Nothing Stop.EndOfInput → self.old.buffer.held ≡ [] }
+        requires used { self.old.awaited ≡ Awaited.Nothing Stop.EndOfInput
+            → self.old.buffer.held ≡ [] }
         requires searched { ¬ (IsOver self.old.awaited) → IsSearchedFor self.old.endings
             self.old.buffer.size self.old.awaited self.old.start self.old.buffer.held searched }
         ensures converses { Converses H.answers H.refuses self.old.endings self.old.buffer.size
-            supply (place_at self.old.awaited handler.old self.old.start self.old.buffer.held)
+            (supply_at is_ended)
+            (place_at self.old.awaited handler.old self.old.start self.old.buffer.held)
             replies.old
             (place_at self.new.awaited handler.new self.new.start self.new.buffer.held)
             replies.new }
@@ -372,7 +362,7 @@ impl<A: Allocator> Dialogue<A> {
                 self.awaited = Awaited::Nothing(Stop::Writer);
                 return;
             }
-            if !self.turn(handler, replies, supply, searched) {
+            if !self.turn(handler, replies, is_ended, searched) {
                 return;
             }
             searched = 0;
@@ -384,14 +374,15 @@ impl<A: Allocator> Dialogue<A> {
         &mut self,
         handler: &mut H,
         replies: &mut Replies<K, B>,
-        supply: Supply,
+        is_ended: bool,
         searched: usize,
     ) -> bool
         requires request { IsRequested self.old.awaited }
         requires going { ¬ (IsOver self.old.awaited) }
         requires searched { IsSearchedFor self.old.endings self.old.buffer.size self.old.awaited
             self.old.start self.old.buffer.held searched }
-        ensures turn { TurnOutcome H.answers H.refuses self.old.endings self.old.buffer.size supply
+        ensures turn { TurnOutcome H.answers H.refuses self.old.endings self.old.buffer.size
+            (supply_at is_ended)
             (place_at self.old.awaited handler.old self.old.start self.old.buffer.held) replies.old
             result (place_at self.new.awaited handler.new self.new.start self.new.buffer.held)
             replies.new }
@@ -400,13 +391,13 @@ impl<A: Allocator> Dialogue<A> {
         ensures at_end { self.new.buffer.is_at_end ≡ self.old.buffer.is_at_end }
     {
         match self.awaited {
+            Awaited::Input(asked) if is_ended && self.buffer.len() == 0 => {
+                self.run_out(handler, replies, asked);
+                true
+            }
             Awaited::Input(Next::Line) => {
-                if supply == Supply::Ended && self.buffer.len() == 0 {
-                    self.awaited = Awaited::Nothing(Stop::EndOfInput);
-                    return true;
-                }
                 let wanted = Wanted::Line(self.endings);
-                self.input(handler, replies, Next::Line, wanted, supply, searched)
+                self.input(handler, replies, Next::Line, wanted, is_ended, searched)
             }
             Awaited::Input(Next::Part(n)) => {
                 self.input(
@@ -414,12 +405,40 @@ impl<A: Allocator> Dialogue<A> {
                     replies,
                     Next::Part(n),
                     Wanted::Part(n),
-                    supply,
+                    is_ended,
                     searched,
                 )
             }
-            Awaited::LineEnd(next) => self.skip(next, supply),
+            Awaited::LineEnd(next) => self.skip(next, is_ended),
             Awaited::Input(Next::Close) | Awaited::Nothing(_) => false,
+        }
+    }
+
+    /// Ends the conversation, since the input has ended and all its bytes were used. The handler is told if it has
+    /// asked for a part.
+    fn run_out<H: Handler, K: Sink, B: Allocator>(
+        &mut self,
+        handler: &mut H,
+        replies: &mut Replies<K, B>,
+        asked: Next,
+    )
+        requires request { IsRequested (Awaited.Input asked) }
+        requires none { self.old.buffer.held ≡ [] }
+        ensures turn { TurnOutcome H.answers H.refuses self.old.endings self.old.buffer.size
+            Supply.Ended
+            (place_at (Awaited.Input asked) handler.old self.old.start self.old.buffer.held)
+            replies.old true
+            (place_at self.new.awaited handler.new self.new.start self.new.buffer.held)
+            replies.new }
+        ensures buffer { self.new.buffer ≡ self.old.buffer }
+        ensures endings { self.new.endings ≡ self.old.endings }
+    {
+        if let Next::Part(_) = asked {
+            let error = LineError::Incomplete(0);
+            let _next = handler.refuse(error, replies);
+            self.awaited = Awaited::Nothing(Stop::Reader(error));
+        } else {
+            self.awaited = Awaited::Nothing(Stop::EndOfInput);
         }
     }
 
@@ -430,15 +449,16 @@ impl<A: Allocator> Dialogue<A> {
         replies: &mut Replies<K, B>,
         asked: Next,
         wanted: Wanted,
-        supply: Supply,
+        is_ended: bool,
         searched: usize,
     ) -> bool
         requires asked { self.old.awaited ≡ Awaited.Input asked }
         requires wanted { Wants self.old.endings asked wanted }
         requires request { IsRequested (Awaited.Input asked) }
-        requires some { supply ≡ Supply.Ended → asked ≡ Next.Line → self.old.buffer.held ≢ [] }
+        requires some { is_ended ≡ true → self.old.buffer.held ≢ [] }
         requires searched { IsLookedFor wanted self.old.start self.old.buffer searched }
-        ensures turn { TurnOutcome H.answers H.refuses self.old.endings self.old.buffer.size supply
+        ensures turn { TurnOutcome H.answers H.refuses self.old.endings self.old.buffer.size
+            (supply_at is_ended)
             (place_at (Awaited.Input asked) handler.old self.old.start self.old.buffer.held)
             replies.old result
             (place_at self.new.awaited handler.new self.new.start self.new.buffer.held)
@@ -447,8 +467,10 @@ impl<A: Allocator> Dialogue<A> {
         ensures endings { self.new.endings ≡ self.old.endings }
         ensures at_end { self.new.buffer.is_at_end ≡ self.old.buffer.is_at_end }
     {
-        match look(&self.buffer, wanted, self.start, supply, searched) {
-            Ok(Some(found)) => self.hand(handler, replies, asked, wanted, supply, found.0, found.1),
+        match look(&self.buffer, wanted, self.start, is_ended, searched) {
+            Ok(Some(found)) => self.hand(
+                handler, replies, asked, wanted, is_ended, found.0, found.1,
+            ),
             Ok(None) => false,
             Err(error) => {
                 let next = handler.refuse(error, replies);
@@ -465,15 +487,16 @@ impl<A: Allocator> Dialogue<A> {
         replies: &mut Replies<K, B>,
         asked: Next,
         wanted: Wanted,
-        supply: Supply,
+        is_ended: bool,
         n: usize,
         end: u64,
     ) -> bool
         requires wanted { Wants self.old.endings asked wanted }
         requires request { IsRequested (Awaited.Input asked) }
-        requires some { supply ≡ Supply.Ended → asked ≡ Next.Line → self.old.buffer.held ≢ [] }
-        requires found { Finds supply wanted self.old.start self.old.buffer n end }
-        ensures turn { TurnOutcome H.answers H.refuses self.old.endings self.old.buffer.size supply
+        requires some { is_ended ≡ true → self.old.buffer.held ≢ [] }
+        requires found { Finds is_ended wanted self.old.start self.old.buffer n end }
+        ensures turn { TurnOutcome H.answers H.refuses self.old.endings self.old.buffer.size
+            (supply_at is_ended)
             (place_at (Awaited.Input asked) handler.old self.old.start self.old.buffer.held)
             replies.old result
             (place_at self.new.awaited handler.new self.new.start self.new.buffer.held)
@@ -492,17 +515,18 @@ impl<A: Allocator> Dialogue<A> {
     }
 
     /// Reads over bytes of a line that was rejected.
-    fn skip(&mut self, next: Next, supply: Supply) -> bool
+    fn skip(&mut self, next: Next, is_ended: bool) -> bool
         requires { self.old.awaited ≡ Awaited.LineEnd next }
-        ensures skips { SkipTurn supply (any_text self.old.endings) next self.old.start
-            self.old.buffer.held result self.new.awaited self.new.start self.new.buffer.held }
+        ensures skips { SkipTurn (supply_at is_ended) (any_text self.old.endings) next
+            self.old.start self.old.buffer.held result self.new.awaited self.new.start
+            self.new.buffer.held }
         ensures size { self.new.buffer.size ≡ self.old.buffer.size }
         ensures endings { self.new.endings ≡ self.old.endings }
         ensures at_end { self.new.buffer.is_at_end ≡ self.old.buffer.is_at_end }
     {
         let text = self.buffer.front(self.buffer.len());
         let endings = whole_endings(self.endings);
-        let Some((n, awaited)) = skip_in(endings, next, self.start, text, supply) else {
+        let Some((n, awaited)) = skip_in(endings, next, self.start, text, is_ended) else {
             return false;
         };
         self.start += n as u64;
@@ -539,18 +563,17 @@ fn skip_in(
     next: Next,
     start: u64,
     text: &[u8],
-    supply: Supply,
+    is_ended: bool,
 ) -> Option<(usize, Awaited)>
-    ensures { SkipsIn supply endings next start text.now result }
+    ensures { SkipsIn (supply_at is_ended) endings next start text.now result }
 {
     let (n, end) = part_of_line(endings, text, u64::MAX - start);
-    match (end, supply) {
-        (Some(PassEnd::Ending), _) => Some((n, after_answer(next))),
-        (Some(_), _) => Some((n, Awaited::Nothing(Stop::Reader(LineError::TooFar)))),
-        (None, Supply::Open) if n == 0 => None,
-        (None, Supply::Open) => Some((n, Awaited::LineEnd(next))),
-        (None, Supply::Ended) => Some((text.len(), Awaited::Nothing(Stop::EndOfInput))),
-        (None, Supply::Failed) => Some((n, Awaited::Nothing(Stop::Reader(LineError::Read)))),
+    match end {
+        Some(PassEnd::Ending) => Some((n, after_answer(next))),
+        Some(_) => Some((n, Awaited::Nothing(Stop::Reader(LineError::TooFar)))),
+        None if is_ended => Some((text.len(), Awaited::Nothing(Stop::EndOfInput))),
+        None if n == 0 => None,
+        None => Some((n, Awaited::LineEnd(next))),
     }
 }
 
@@ -560,25 +583,24 @@ fn look<A: Allocator>(
     buffer: &LineBuffer<A>,
     wanted: Wanted,
     start: u64,
-    supply: Supply,
+    is_ended: bool,
     searched: usize,
 ) -> Result<Option<(usize, u64)>, LineError>
     requires { IsLookedFor wanted start buffer.now searched }
-    ensures { Looks supply wanted start buffer.now result }
+    ensures { Looks is_ended wanted start buffer.now result }
 {
     may_fit(wanted, start, buffer.size())?;
     let text = buffer.usable(wanted);
     if let Some(n) = find(wanted, text, searched) {
-        return look_at(buffer, wanted, start, supply, n, false);
+        return look_at(buffer, wanted, start, is_ended, n, false);
     }
     if text.len() < buffer.len() {
         return Err(refusal(start, text.len(), buffer.size()));
     }
-    match supply {
-        Supply::Open => Ok(None),
-        Supply::Ended => look_at(buffer, wanted, start, supply, text.len(), true),
-        Supply::Failed => Err(LineError::Read),
+    if is_ended {
+        return look_at(buffer, wanted, start, is_ended, text.len(), true);
     }
+    Ok(None)
 }
 
 /// The number of the first `n` bytes and the position after them, or why they are not what is wanted.
@@ -586,13 +608,13 @@ fn look_at<A: Allocator>(
     buffer: &LineBuffer<A>,
     wanted: Wanted,
     start: u64,
-    supply: Supply,
+    is_ended: bool,
     n: usize,
     is_last: bool,
 ) -> Result<Option<(usize, u64)>, LineError>
-    requires found { FindsEnd wanted (window_at supply buffer.now) n is_last }
-    requires last { is_last ≡ true → supply ≡ Supply.Ended }
-    ensures { Looks supply wanted start buffer.now result }
+    requires found { FindsEnd wanted (window_at is_ended buffer.now) n is_last }
+    requires last { is_last ≡ true → is_ended ≡ true }
+    ensures { Looks is_ended wanted start buffer.now result }
 {
     let end = end_of(wanted, start, buffer.front(n), is_last)?;
     Ok(Some((n, end)))

@@ -1,10 +1,10 @@
 use Rattle.std.proofs.Common.{[], ap, append-nil, false, refl, subst, sym, ◌∙◌, ◌≡◌}
 use Rattle.ascii_lines.specs.LineBuffer.{WindowState}
 use Rattle.ascii_lines.specs.Serve.{IsRead, ReadsOn, read_side}
-use Rattle.ascii_lines.specs.Turns.{IsOver, TalkState, is_ended}
+use Rattle.ascii_lines.specs.Turns.{IsOver, TalkState, supply_at}
 use Rattle.ascii_lines.specs.declared.conversation.Supply.TheVariants as supply
-use Rattle.ascii_lines.proofs.ServeLemmas.{read_is, reads_on, supply_ended, supply_reads}
-use Rattle.ascii_lines.proofs.ServeLemmas.{then_right}
+use Rattle.ascii_lines.proofs.ServeLemmas.{read_is, reads_on, supply_reads, then_right}
+use Rattle.ascii_lines.proofs.TurnsLemmas.{supply_ended}
 use Rattle.ascii_lines.proofs.conversation.Conversation.read.Goals as goal
 
 pub returns-in-Ok : goal.returns-in-Ok
@@ -23,13 +23,14 @@ returns-in-Ok g c =
     c.self.view_is
     (reads_on g.H.Handler.answers g.H.Handler.refuses _ c.args.handler.now c.converse.new.handler
     c.args.replies.now c.fill.new.self c.converse.new.replies c.fill.new.buffer fills.outcome.0
-    c.supply-supply.result c.in-Ok.ensures.buffer c.in-Ok.ensures.ending
+    (supply_at c.is_at_end-is_ended.result) c.in-Ok.ensures.buffer c.in-Ok.ensures.ending
     (subst (λ now. IsRead now (read_side c.args.replies.now.state) (read_side c.fill.new.self.state)
-    fills.outcome.0) (sym c.supply-supply.ensures)
+    fills.outcome.0) (ap supply_at (sym c.is_at_end-is_ended.ensures))
     (read_is at_end fills.outcome.0 fills.outcome.3 fills.outcome.1))
     fills.outcome.2 fills.size _ c.converse.ensures.converses
-    (ap is_ended c.supply-supply.ensures ∙ (supply_ended at_end ∙ sym c.converse.ensures.at_end))
-    (λ is. absurd (supply_reads at_end (sym c.supply-supply.ensures ∙ is)))
+    (supply_ended c.is_at_end-is_ended.result
+    ∙ (c.is_at_end-is_ended.ensures ∙ sym c.converse.ensures.at_end))
+    (λ is. absurd (supply_reads c.is_at_end-is_ended.result is))
     c.converse.ensures.size c.converse.ensures.endings)
 
 pub returns-in-Err : goal.returns-in-Err
