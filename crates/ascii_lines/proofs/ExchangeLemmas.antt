@@ -1,5 +1,6 @@
 -- A conversation as its handler sees it.
-use Rattle.std.proofs.Common.{◌≡◌, ◌∙◌, ℕ, List, [], ◌∷◌, ◌++◌, None, Option, Some, append-nil, ap, arith}
+use Rattle.std.proofs.Common.{◌≡◌, ◌∙◌, ℕ, List, [], ◌∷◌, ◌++◌, None, Option, Some, append-nil, ap}
+use Rattle.std.proofs.Common.{arith}
 use Rattle.std.proofs.Common.{inl, inr, length, length-append, true}
 use Rattle.std.proofs.Common.{refl, subst, sym}
 use Rattle.std.proofs.lemmas.Grind.{flat_map-append}
@@ -13,10 +14,12 @@ use Rattle.ascii.specs.declared.iter.spans.Ending.TheVariants.{Absent}
 use Rattle.ascii.specs.declared.iter.spans.Endings.{Endings}
 use Rattle.ascii_devices.specs.Devices.{received_of}
 use Rattle.ascii_lines.specs.Exchanges.{IsReplier, Runs, inputs_of, said_in}
-use Rattle.ascii_lines.specs.Replies.{IsInputOf, Reply, Step, rejected, reply_bytes, reply_text, skipped}
+use Rattle.ascii_lines.specs.Replies.{IsInputOf, Reply, Step, rejected, reply_bytes, reply_text}
+use Rattle.ascii_lines.specs.Replies.{skipped}
 use Rattle.ascii_lines.specs.Replies.{took}
 use Rattle.ascii_lines.specs.Serve.{ChannelState, RepliesToAll, Serves, Talk, first_place}
-use Rattle.ascii_lines.specs.Turns.{Completes, IsTurnAt, Place, Stops, Turns, awaited_by, is_ended, place_of}
+use Rattle.ascii_lines.specs.Turns.{Completes, IsTurnAt, Place, Stops, Turns, awaited_by, is_ended}
+use Rattle.ascii_lines.specs.Turns.{place_of}
 use Rattle.ascii_lines.specs.declared.conversation.Awaited.{Awaited}
 use Rattle.ascii_lines.specs.declared.conversation.Awaited.TheVariants.{Input, LineEnd, Nothing}
 use Rattle.ascii_lines.specs.declared.conversation.Supply.{Supply}
@@ -49,7 +52,8 @@ module _ {H : Type 0} (answers : H → Line → List Reply → Next → H → Ty
       go (Input asked) (took input said) t runs = (t.0, mid.handler, t.8, runs)
       go (Input asked) (rejected error said) t runs = (t.0, mid.handler, t.5, runs)
       go (Input asked) (skipped bytes) t runs =
-          subst (λ h. Runs answers refuses h steps b.handler) (ap (λ (p : Place H). p.handler) t.3) runs
+          subst (λ h. Runs answers refuses h steps b.handler) (ap (λ (p : Place H). p.handler) t.3)
+          runs
       go (LineEnd then) (skipped bytes) t runs =
           subst (λ h. Runs answers refuses h steps b.handler) t.0 runs
       go (LineEnd then) (took input said) t runs = absurd t
@@ -71,7 +75,8 @@ module _ {H : Type 0} (answers : H → Line → List Reply → Next → H → Ty
       → Runs answers refuses handler talk.steps last
   talk_runs {old} {new} {handler} {last} talk =
       turns_run answers refuses old.talk.endings old.talk.size talk.now
-      (first_place old handler (received_of talk.events)) (place_of new.talk last) talk.steps talk.turns
+      (first_place old handler (received_of talk.events)) (place_of new.talk last) talk.steps
+      talk.turns
 
 -- ---- handlers that reply to lines
 
@@ -141,7 +146,8 @@ module _ {H : Type 0} (answers : H → Line → List Reply → Next → H → Ty
                 (λ none. elim completes [
                   | inl whole ↦ absurd (is.2 whole none)
                   | inr last ↦ no_lines endings (inputs_of steps)
-                      (subst (λ text. LinesEndedBy endings text (inputs_of steps)) last.1 others.are)
+                      (subst (λ text. LinesEndedBy endings text (inputs_of steps)) last.1
+                      others.are)
                 ]) others.are);
             says = λ ending. flat_map-append (reply_text ending) said (said_in steps)
                 ∙ (ap (λ rs. reply_bytes ending rs ++ reply_bytes ending (said_in steps)) by.0
@@ -182,7 +188,8 @@ module _ {H : Type 0} (answers : H → Line → List Reply → Next → H → Ty
         | inr over ↦ over
       ] in
       let all = takes_lines answers refuses reply replier old.talk.endings old.talk.size talk.now
-      (first_place old handler (received_of talk.events)) (place_of new.talk last) talk.steps refl over
+      (first_place old handler (received_of talk.events)) (place_of new.talk last) talk.steps refl
+      over
       talk.turns in
       let seen : new.talk.is_at_end ≡ true = sym talk.ended ∙ ap is_ended used.0 in
       let reads : new.output.aside.failures ≡ old.output.aside.failures = elim talk.reads [
@@ -195,7 +202,8 @@ module _ {H : Type 0} (answers : H → Line → List Reply → Next → H → Ty
             (λ rest. LinesEndedBy old.talk.endings (old.talk.held ++ rest) (inputs_of talk.steps))
             talk.gave.gave (subst IsAtEnd (talk.gave.left reads) (serves.end seen)) all.are;
         output = subst (Appends old.output.taken new.output.taken)
-            (serves.wrote.0 ∙ ap (λ xs. old.output.buffer.bytes ++ xs) (all.says old.ending)) talk.took;
+            (serves.wrote.0 ∙ ap (λ xs. old.output.buffer.bytes ++ xs) (all.says old.ending))
+            talk.took;
       }
 
   -- after a conversation that ended with the input, all lines were replied to

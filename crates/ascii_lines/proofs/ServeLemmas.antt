@@ -1,6 +1,8 @@
 -- A conversation over a device: steps, writes and reads, one after another.
-use Rattle.std.proofs.Common.{◌≡◌, ◌≢◌, ◌⊎◌, ◌∙◌, ℕ, ◌+◌, ◌-◌, ◌*◌, ◌^◌, ◌<◌, ◌≤◌, List, [], ◌∷◌, ◌++◌}
-use Rattle.std.proofs.Common.{Bool, Err, None, Ok, Option, Result, Some, ap, append_assoc, append-nil}
+use Rattle.std.proofs.Common.{◌≡◌, ◌≢◌, ◌⊎◌, ◌∙◌, ℕ, ◌+◌, ◌-◌, ◌*◌, ◌^◌, ◌<◌, ◌≤◌, List, [], ◌∷◌}
+use Rattle.std.proofs.Common.{◌++◌}
+use Rattle.std.proofs.Common.{Bool, Err, None, Ok, Option, Result, Some, ap, append_assoc}
+use Rattle.std.proofs.Common.{append-nil}
 use Rattle.std.proofs.Common.{arith, false, inl, inr, length, length-append, map, refl, subst, sym}
 use Rattle.std.proofs.Common.{true, ◌==◌}
 use Rattle.std.proofs.KnownBytes.{Appends-nil, Appends-trans}
@@ -25,8 +27,10 @@ use Rattle.ascii_lines.specs.History.{AreWrites, EndsInEmptyRead}
 use Rattle.ascii_lines.specs.LineBuffer.{FailsOnce, ReadsOnce, WindowState}
 use Rattle.ascii_lines.specs.LineWriter.{FailsToWrite, Flushes, FlushesFrom, Writing}
 use Rattle.ascii_lines.specs.Replies.{Reply, Says, SaysBytes, Saying, Step, reply_bytes, reply_text}
-use Rattle.ascii_lines.specs.Serve.{AtEachRead, ChannelState, CountsBy, IsAnswered, IsFlushed, IsRead}
-use Rattle.ascii_lines.specs.Serve.{IsUnread, IsUp, ReadsOn, SendsOut, SentBy, Serves, SoFar, Talk, Wrote}
+use Rattle.ascii_lines.specs.Serve.{AtEachRead, ChannelState, CountsBy, IsAnswered, IsFlushed}
+use Rattle.ascii_lines.specs.Serve.{IsRead}
+use Rattle.ascii_lines.specs.Serve.{IsUnread, IsUp, ReadsOn, SendsOut, SentBy, Serves, SoFar, Talk}
+use Rattle.ascii_lines.specs.Serve.{Wrote}
 use Rattle.ascii_lines.specs.Serve.{first_place, read_side}
 use Rattle.ascii_lines.specs.Turns.{Converses, IsOver, Lacks, Place, TalkState, Turns, is_ended}
 use Rattle.ascii_lines.specs.Turns.{place_at, place_of, place_with, stop_of, supply_at, with_more}
@@ -44,7 +48,8 @@ use Rattle.ascii_lines.specs.declared.serving.Stop.TheVariants as stop
 use Rattle.ascii_lines.proofs.GathersLemmas.{is_none, is_some}
 use Rattle.ascii_lines.proofs.HistoryLemmas.{AreWrites-append, AreWrites-sent, AtEachRead-append}
 use Rattle.ascii_lines.proofs.HistoryLemmas.{AtEachRead-received, AtEachRead-writes}
-use Rattle.ascii_lines.proofs.HistoryLemmas.{EndsInEmptyRead-writes, IsFlushed-after, IsFlushed-last}
+use Rattle.ascii_lines.proofs.HistoryLemmas.{EndsInEmptyRead-writes, IsFlushed-after}
+use Rattle.ascii_lines.proofs.HistoryLemmas.{IsFlushed-last}
 use Rattle.ascii_lines.proofs.HistoryLemmas.{received_of-bytes, received_of-writes, sent_of-bytes}
 use Rattle.ascii_lines.proofs.TurnsLemmas.{Turns-append, Turns-length, Turns-more, said-append}
 use Rattle.ascii_lines.proofs.TurnsLemmas.{some_length, supply_ended}
@@ -136,7 +141,8 @@ then_right (inr then) apart = then
 
 pub reads_on : {H C : Type 0} (answers : H → Line → List Reply → Next → H → Type 0)
     (refuses : H → LineError → List Reply → Next → H → Type 0) (old : TalkState)
-    (handler last : H) (out mid said : Saying C) (after : WindowState) (read : List ℕ) (now : Supply)
+    (handler last : H) (out mid said : Saying C) (after : WindowState) (read : List ℕ)
+    (now : Supply)
     → mid.state.buffer ≡ out.state.buffer → mid.ending ≡ out.ending
     → IsRead now (read_side out.state) (read_side mid.state) read → after.held ≡ old.held ++ read
     → after.size ≡ old.size → (new : TalkState)
@@ -146,7 +152,8 @@ pub reads_on : {H C : Type 0} (answers : H → Line → List Reply → Next → 
     → (now ≡ supply.Failed → (why : Stop) × (new.awaited ≡ Nothing why) × IsUnread why)
     → new.size ≡ after.size → new.endings ≡ old.endings
     → ReadsOn answers refuses old handler out new last said
-reads_on {H} {C} answers refuses old handler last out mid said after read now buffer ending reads held
+reads_on {H} {C} answers refuses old handler last out mid said after read now buffer ending reads
+    held
     size new converses ended unread sized same = record {
       mid = mid;
       read = read;
@@ -157,7 +164,8 @@ reads_on {H} {C} answers refuses old handler last out mid said after read now bu
       converses = subst (λ text. Converses answers refuses old.endings old.size now
           (place_at old.awaited handler old.start text) mid (place_of new last) said) held
           (subst (λ n. Converses answers refuses old.endings n now
-          (place_at old.awaited handler old.start after.held) mid (place_of new last) said) size converses);
+          (place_at old.awaited handler old.start after.held) mid (place_of new last) said) size
+          converses);
       ended = ended;
       unread = unread;
       size = sized ∙ size;
@@ -165,7 +173,8 @@ reads_on {H} {C} answers refuses old handler last out mid said after read now bu
     }
 
 module _ {H : Type 0} (answers : H → Line → List Reply → Next → H → Type 0)
-    (refuses : H → LineError → List Reply → Next → H → Type 0) (old : ChannelState) (handler : H) where
+    (refuses : H → LineError → List Reply → Next → H → Type 0) (old : ChannelState)
+    (handler : H) where
   abbrev Answered : List Event → Type 0
   Answered past = IsAnswered answers refuses old handler past
 
@@ -182,13 +191,15 @@ module _ {H : Type 0} (answers : H → Line → List Reply → Next → H → Ty
   pub record Base (now : Supply) (place : Place H) (output : OutputState) : Type 0 where
     pub steps : List Step
     pub events : List Event
-    pub turns : Turns answers refuses endings size now (first_place old handler (received_of events))
+    pub turns : Turns answers refuses endings size now (first_place old handler
+        (received_of events))
         steps place
     pub grows : Grows old.output.history output.history events
     pub prompt : AtEachRead Answered [] events
     pub gave : Gives of_state (read_side old.output) (read_side output) (received_of events)
     pub took : Appends old.output.taken output.taken (sent_of events)
-    pub sent : SentBy output.buffer.is_broken (sent_of events) output.buffer.bytes (said_bytes steps)
+    pub sent : SentBy output.buffer.is_broken (sent_of events) output.buffer.bytes
+        (said_bytes steps)
     pub count : CountsBy output.buffer.is_broken old.output.failures output.failures
     pub at_end : is_ended now ≡ true → (old.talk.is_at_end ≡ true) ⊎ EndsInEmptyRead events
     pub kept : now ≢ supply.Failed → output.aside.failures ≡ old.output.aside.failures
@@ -203,7 +214,8 @@ module _ {H : Type 0} (answers : H → Line → List Reply → Next → H → Ty
     prompt = tt;
     gave = Gives-nil of_state (read_side old.output);
     took = Appends-nil old.output.taken;
-    sent = subst (λ b. SentBy b [] old.output.buffer.bytes (old.output.buffer.bytes ++ [])) (sym whole)
+    sent = subst (λ b. SentBy b [] old.output.buffer.bytes (old.output.buffer.bytes ++ []))
+        (sym whole)
         (sym (append-nil old.output.buffer.bytes));
     count = subst (λ b. CountsBy b old.output.failures old.output.failures) (sym whole) refl;
     at_end = λ is. inl (sym (supply_ended old.talk.is_at_end) ∙ is);
@@ -226,7 +238,8 @@ module _ {H : Type 0} (answers : H → Line → List Reply → Next → H → Ty
       record {
         steps = o.steps ++ more;
         events = o.events ++ events;
-        turns = subst (λ bytes. Turns answers refuses endings size now (first_place old handler bytes)
+        turns = subst (λ bytes. Turns answers refuses endings size now (first_place old handler
+            bytes)
             (o.steps ++ more) new) (sym same)
             (Turns-append answers refuses endings size now
             (first_place old handler (received_of o.events)) mid new o.steps more o.turns turns);
@@ -236,9 +249,11 @@ module _ {H : Type 0} (answers : H → Line → List Reply → Next → H → Ty
         gave = subst (Gives of_state (read_side old.output) (read_side b)) (sym same)
             (then_written old.output a b (received_of o.events) events o.gave writes grows aside);
         took = subst (Appends old.output.taken b.taken) (sym (sent_of-append o.events events))
-            (Appends-trans old.output.taken a.taken b.taken (sent_of o.events) (sent_of events) o.took
+            (Appends-trans old.output.taken a.taken b.taken (sent_of o.events) (sent_of events)
+            o.took
             took);
-        sent = subst (λ xs. SentBy b.buffer.is_broken xs b.buffer.bytes (said_bytes (o.steps ++ more)))
+        sent = subst (λ xs. SentBy b.buffer.is_broken xs b.buffer.bytes (said_bytes (o.steps
+            ++ more)))
             (sym (sent_of-append o.events events))
             (subst (λ xs. SentBy b.buffer.is_broken (sent_of o.events ++ sent_of events)
             b.buffer.bytes xs)
@@ -248,7 +263,8 @@ module _ {H : Type 0} (answers : H → Line → List Reply → Next → H → Ty
             ∙ flat_map-append (reply_text old.ending) (said_in o.steps) (said_in more))))
             (SentBy-after b.buffer.is_broken (sent_of o.events) a.buffer.bytes (said_bytes o.steps)
             (sent_of events) b.buffer.bytes (reply_bytes old.ending (said_in more))
-            (subst (λ q. SentBy q (sent_of o.events) a.buffer.bytes (said_bytes o.steps)) whole o.sent)
+            (subst (λ q. SentBy q (sent_of o.events) a.buffer.bytes (said_bytes o.steps)) whole
+            o.sent)
             sent));
         count = CountsBy-after b.buffer.is_broken old.output.failures a.failures b.failures
             (subst (λ q. CountsBy q old.output.failures a.failures) whole o.count) count;
@@ -268,7 +284,8 @@ module _ {H : Type 0} (answers : H → Line → List Reply → Next → H → Ty
       let bytes = reply_bytes old.ending (said_in more) in
       let says : SaysBytes false a.state bytes b.state =
       subst (λ q. SaysBytes q a.state bytes b.state) whole
-      (subst (λ e. SaysBytes a.state.buffer.is_broken a.state (reply_bytes e (said_in more)) b.state)
+      (subst (λ e. SaysBytes a.state.buffer.is_broken a.state (reply_bytes e (said_in more))
+      b.state)
       is said.0) in
       elim says [
         | inl w ↦ base-writes now mid new a.state b.state o whole more turns w.passed.told.events
@@ -327,7 +344,8 @@ module _ {H : Type 0} (answers : H → Line → List Reply → Next → H → Ty
         base = base-writes now place place a b o whole [] refl events
             (AreWrites-append (write_of a.buffer.bytes) (Flushed ∷ [])
             (AreWrites-sent a.buffer.bytes) tt) f.told
-            (subst (λ q. SentBy q (sent_of events) b.buffer.bytes (a.buffer.bytes ++ [])) (sym f.stage)
+            (subst (λ q. SentBy q (sent_of events) b.buffer.bytes (a.buffer.bytes ++ []))
+            (sym f.stage)
             (ap (λ xs. xs ++ b.buffer.bytes) (sent_by_flush a.buffer.bytes)
             ∙ ap (λ xs. a.buffer.bytes ++ xs) f.none))
             (subst (λ q. CountsBy q a.failures b.failures) (sym f.stage) f.failures)
@@ -366,7 +384,8 @@ module _ {H : Type 0} (answers : H → Line → List Reply → Next → H → Ty
     base-read now read grows same count gave ends kept =
         let o = s.base in
         let none : sent_of (o.events ++ read_of read) ≡ sent_of o.events =
-        sent_of-append o.events (read_of read) ∙ (ap (λ xs. sent_of o.events ++ xs) (sent_of-bytes read)
+        sent_of-append o.events (read_of read)
+        ∙ (ap (λ xs. sent_of o.events ++ xs) (sent_of-bytes read)
         ∙ append-nil (sent_of o.events)) in
         let received : received_of (o.events ++ read_of read) ≡ received_of o.events ++ read =
         received_of-append o.events (read_of read)
@@ -429,8 +448,8 @@ module _ {H : Type 0} (answers : H → Line → List Reply → Next → H → Ty
     then_read supply.Open read (reads, some) =
         once supply.Open read reads (λ is. absurd (false≢true is))
     then_read supply.Ended read (reads, none) = once supply.Ended read reads (λ _. none)
-    then_read supply.Failed read (fails, none) = subst (λ xs. Base supply.Failed (with_more place xs) b)
-        (sym none) (elim fails [
+    then_read supply.Failed read (fails, none) =
+        subst (λ xs. Base supply.Failed (with_more place xs) b) (sym none) (elim fails [
           | inl once ↦ base-read supply.Failed [] once.told
               (ap (λ (side : Aside). side.bytes) once.aside)
               (ap (λ (side : Aside). side.failures) once.aside)
@@ -465,7 +484,8 @@ module _ {H : Type 0} (answers : H → Line → List Reply → Next → H → Ty
                   (said_bytes o.steps)) (sym buffer) o.sent;
               count = subst (λ n. CountsBy b.buffer.is_broken old.output.failures n)
                   (sym (ap (λ (d : SourceState). d.aside.failures) same))
-                  (subst (λ (buf : BufferState). CountsBy buf.is_broken old.output.failures a.failures)
+                  (subst (λ (buf : BufferState). CountsBy buf.is_broken old.output.failures
+                  a.failures)
                   (sym buffer) o.count);
               at_end = λ is. absurd (false≢true is);
               kept = λ apart. absurd (apart refl);
@@ -580,7 +600,8 @@ module _ {H : Type 0} (answers : H → Line → List Reply → Next → H → Ty
           | inr unread ↦ inr unread
         ]) s.talk.size s.talk.endings (same ∙ s.talk.ending)
 
-    module _ {C : Type 0} (a b : Saying C) (state : a.state ≡ mid.output) (kept : a.ending ≡ mid.ending)
+    module _ {C : Type 0} (a b : Saying C) (state : a.state ≡ mid.output) (kept : a.ending
+        ≡ mid.ending)
         (left : mid.talk.is_at_end ≡ true → IsAtEnd mid.output.aside.bytes) where
       abbrev pub sent_state : ChannelState
       sent_state = record { talk = mid.talk; output = b.state; ending = b.ending }
@@ -668,7 +689,8 @@ module _ {H : Type 0} (answers : H → Line → List Reply → Next → H → Ty
             wrote = by why over wrote;
           }
         where
-          by : (why : Stop) → mid.talk.awaited ≡ Nothing why → {events : List Event} {bytes : List ℕ}
+          by : (why : Stop) → mid.talk.awaited ≡ Nothing why
+              → {events : List Event} {bytes : List ℕ}
               → (sent_of events ≡ bytes) × IsFlushed events × (b.state.buffer.bytes ≡ [])
               × (b.state.failures ≡ old.output.failures) × (b.state.buffer.is_broken ≡ false)
               → Wrote why old.output events bytes b.state
@@ -693,7 +715,8 @@ module _ {H : Type 0} (answers : H → Line → List Reply → Next → H → Ty
         converses_now = subst (λ e. Converses answers refuses e size r.now
             (place_with mid.talk last r.read) r.mid (place_of new next) said) s.talk.endings
             (subst (λ n. Converses answers refuses mid.talk.endings n r.now
-            (place_with mid.talk last r.read) r.mid (place_of new next) said) s.talk.size r.converses)
+            (place_with mid.talk last r.read) r.mid (place_of new next) said) s.talk.size
+            r.converses)
 
         pub so_far-read : SoFar answers refuses old handler
             (record { talk = new; output = said.state; ending = said.ending }) next
@@ -770,7 +793,8 @@ resumed {H} {C} answers refuses old handler talk out said is state ending up new
     endings at_end =
     let now = supply_at old.talk.is_at_end in
     let c : Converses answers refuses old.talk.endings old.talk.size now
-    (place_of (record old.talk { awaited = Input next.Line }) handler) out (place_of new last) said =
+    (place_of (record old.talk { awaited = Input next.Line }) handler) out (place_of new last) said
+    =
     subst (λ (t : TalkState). Converses answers refuses t.endings t.size (supply_at t.is_at_end)
     (place_of (record t { awaited = Input next.Line }) handler) out (place_of new last) said) is
     converses in
@@ -779,7 +803,8 @@ resumed {H} {C} answers refuses old handler talk out said is state ending up new
     (base-first answers refuses old handler up))
     (ap (λ (o : OutputState). o.buffer.is_broken) state ∙ up)
     (subst (λ text. Converses answers refuses old.talk.endings old.talk.size now
-    (record { awaited = Input next.Line; handler = handler; start = old.talk.start; text = text }) out
+    (record { awaited = Input next.Line; handler = handler; start = old.talk.start; text = text })
+    out
     (place_of new last) said) (sym (append-nil old.talk.held)) c)
     (λ over. let e : Input next.Line ≡ Nothing over.0 = over.1 in cc)
     (supply_ended old.talk.is_at_end ∙ sym (at_end ∙ ap (λ (t : TalkState). t.is_at_end) is))

@@ -1,6 +1,8 @@
 -- Steps of a conversation, one after another.
-use Rattle.std.proofs.Common.{◌≡◌, ◌≢◌, ◌⊎◌, ◌∙◌, ℕ, ◌+◌, ◌*◌, ◌-◌, ◌^◌, ◌<◌, ◌≤◌, List, [], ◌∷◌, ◌++◌}
-use Rattle.std.proofs.Common.{Bool, Err, None, Ok, Option, Result, Some, ap, append_assoc, append-nil}
+use Rattle.std.proofs.Common.{◌≡◌, ◌≢◌, ◌⊎◌, ◌∙◌, ℕ, ◌+◌, ◌*◌, ◌-◌, ◌^◌, ◌<◌, ◌≤◌, List, [], ◌∷◌}
+use Rattle.std.proofs.Common.{◌++◌}
+use Rattle.std.proofs.Common.{Bool, Err, None, Ok, Option, Result, Some, ap, append_assoc}
+use Rattle.std.proofs.Common.{append-nil}
 use Rattle.std.proofs.Common.{arith, drop, false, inl, inr, length, length-append, refl, subst, sym}
 use Rattle.std.proofs.Common.{take, true}
 use Rattle.std.proofs.Math.Seq.{drop-length, take-append_seam}
@@ -20,7 +22,8 @@ use Rattle.ascii_devices.specs.States.{SourceState}
 use Rattle.ascii_lines.specs.Exchanges.{said_in}
 use Rattle.ascii_lines.specs.LineBuffer.{IsUsable, WindowState}
 use Rattle.ascii_lines.specs.LineReader.{FindsEnd, StopsBy}
-use Rattle.ascii_lines.specs.Replies.{IsInputOf, IsRequest, Reply, Says, Saying, Step, at_end_before}
+use Rattle.ascii_lines.specs.Replies.{IsInputOf, IsRequest, Reply, Says, Saying, Step}
+use Rattle.ascii_lines.specs.Replies.{at_end_before}
 use Rattle.ascii_lines.specs.Replies.{rejected, skipped, took}
 use Rattle.ascii_lines.specs.Skipping.{HasNoEnd, IsFinal, TakesPart, WhyNotSkipped}
 use Rattle.ascii_lines.specs.Turns.{Completes, Converses, Faults, Finds, GoesTo, IsLookedFor}
@@ -49,7 +52,8 @@ use Rattle.ascii_lines.proofs.ReplyLemmas.{Says-nil, Says-trans}
 use Rattle.ascii_lines.proofs.SkippingLemmas.{clean_more}
 use Rattle.ascii_lines.proofs.TakesLemmas.{end_rejects, takes_off}
 use Rattle.ascii_lines.proofs.WantedLemmas.{ends_front, ends_whole, lacks_whole, may_front}
-use Rattle.ascii_lines.proofs.WantedLemmas.{must_read, rejects, searched_front, searched_none, usable_least}
+use Rattle.ascii_lines.proofs.WantedLemmas.{must_read, rejects, searched_front, searched_none}
+use Rattle.ascii_lines.proofs.WantedLemmas.{usable_least}
 
 pub said-append : (xs ys : List Step) → said_in (xs ++ ys) ≡ said_in xs ++ said_in ys
 said-append [] ys = refl
@@ -160,7 +164,8 @@ why_more endings most start bytes held more fault.TooFar other (far, free, all) 
     let same = append_assoc bytes held more in (
       omega (arith, far, ap length same, length-append (bytes ++ held) more),
       subst (λ xs. FreeUpTo endings xs (2 ^ 64 - 1 - start)) same
-          (FreeUpTo-more endings (bytes ++ held) more (2 ^ 64 - 1 - start) (omega (arith, far)) free),
+          (FreeUpTo-more endings (bytes ++ held) more (2 ^ 64 - 1 - start) (omega (arith, far))
+          free),
       all,
     )
 why_more endings most start bytes held more fault.Read other why = absurd (other refl)
@@ -215,7 +220,8 @@ module _ {H : Type 0} (answers : H → Line → List Reply → Next → H → Ty
       shown what asked then error wants goes (seen, others, is, why, read, some) ended none =
           elim goes [
             | inl on ↦
-                let line : what ≡ wanted.Line endings = subst (λ n. Wants endings n what) on.1 wants in
+                let line : what ≡ wanted.Line endings = subst (λ n. Wants endings n what) on.1 wants
+                in
                 let empty : seen ≡ [] = nil_from_length seen (omega (
                   arith,
                   ap length none,
@@ -224,9 +230,11 @@ module _ {H : Type 0} (answers : H → Line → List Reply → Next → H → Ty
                   length-append seen others,
                 )) in
                 absurd (on.2 (nothing_shown endings a.start size (at_end_before others false) error
-                (subst (λ xs. Rejects (wanted.Line endings) a.start size xs (at_end_before others false)
+                (subst (λ xs. Rejects (wanted.Line endings) a.start size xs (at_end_before others
+                false)
                 error) empty
-                (subst (λ w. Rejects w a.start size seen (at_end_before others false) error) line why))))
+                (subst (λ w. Rejects w a.start size seen (at_end_before others false) error) line
+                why))))
             | inr over ↦ absurd (apart ended (stop.Reader error, over.0))
           ]
 
@@ -306,7 +314,8 @@ module _ {H : Type 0} (answers : H → Line → List Reply → Next → H → Ty
       → a.start + length a.text ≡ b.start + length b.text
   turn-length a b step turn = go a.awaited step turn
     where
-      go : (awaited : Awaited) (step : Step) → IsTurnAt answers refuses endings size now awaited a step b
+      go : (awaited : Awaited) (step : Step) → IsTurnAt answers refuses endings size now awaited a
+          step b
           → a.start + length a.text ≡ b.start + length b.text
       go (Input asked) (took input said) t =
           omega (arith, ap length t.9, length-append t.2 b.text, t.10)
@@ -415,7 +424,8 @@ module _ {H K : Type 0} (answers : H → Line → List Reply → Next → H → 
   module _ (mid : Place H) (said : Saying K) (going : Going mid said) where
     -- one step more
     steps-more : (new : Place H) (after : Saying K) (step : Step)
-        → IsTurn answers refuses endings size now mid step new → Says said (said_in (step ∷ [])) after
+        → IsTurn answers refuses endings size now mid step new
+        → Says said (said_in (step ∷ [])) after
         → (steps : List Step) × Turns answers refuses endings size now old steps new
         × Says out (said_in steps) after
     steps-more new after step turn says = (
@@ -477,7 +487,8 @@ module _ {H K : Type 0} (answers : H → Line → List Reply → Next → H → 
           → TurnOutcome answers refuses endings size now mid said r new after
       moved r is = subst (λ b. TurnOutcome answers refuses endings size now mid said b new after) is
           (subst (λ e. TurnOutcome answers refuses e size now mid said result new after) same
-          (subst (λ n. TurnOutcome answers refuses kind n now mid said result new after) sized turn))
+          (subst (λ n. TurnOutcome answers refuses kind n now mid said result new after) sized
+          turn))
 
       -- no step can be taken
       pub then_waits : result ≡ false → said.state.buffer.is_broken ≡ false
@@ -519,7 +530,8 @@ module _ {H K : Type 0} (answers : H → Line → List Reply → Next → H → 
   -- a conversation that is over takes no bytes
   pub closed_feeds : IsOver talk.awaited
       → Rests talk.endings talk.size talk.awaited talk.start talk.held
-      → Converses answers refuses talk.endings talk.size supply.Open (place_with talk handler []) out
+      → Converses answers refuses talk.endings talk.size supply.Open (place_with talk handler [])
+      out
       (place_of talk handler) out
   closed_feeds over rests = record {
     steps = [];
@@ -805,7 +817,8 @@ module _ {H K : Type 0} (answers : H → Line → List Reply → Next → H → 
   turn_lacks asked n gave then is asks ended none says tells request =
       let some : IsRequest (next.Part n) = subst (λ a. IsRequested (Input a)) is asks in
       let error = fault.Incomplete 0 in
-      subst (λ a. TurnOutcome answers refuses endings size now (place_at (Input a) handler start text)
+      subst (λ a. TurnOutcome answers refuses endings size now (place_at (Input a) handler start
+      text)
       out true (place_at (Nothing (stop.Reader error)) last start text) said) (sym is) (
       let cut : Rejects (wanted.Part n) start size text (is_ended now) error = (
         sym (ap length none),
@@ -965,7 +978,8 @@ module _ (ended : Bool) (what : Wanted) (start : ℕ) (buffer : WindowState) whe
           let front = take searched buffer.held in
           let long = length-take-le searched buffer.held low in
           let fits : searched ≤ buffer.size = omega (arith, long, fits_of what front must) in
-          let within = usable_least what buffer part usable searched low fits (may_of what front must) in (
+          let within = usable_least what buffer part usable searched low fits
+          (may_of what front must) in (
             within,
             subst (λ xs. IsSearched what xs searched) (sym usable.front)
                 (searched_front buffer.held (length part) searched within what
@@ -1100,7 +1114,8 @@ module _ (now : Supply) (endings : Endings) (then : Next) (start : ℕ) (text : 
     ))
 
 pub skip_taken : (now : Supply) (endings : Endings) (then : Next) (start : ℕ) (text left : List ℕ)
-    (n : ℕ) (after : Awaited) → SkipsIn now endings then start text (Some (record { 0 = n; 1 = after }))
+    (n : ℕ) (after : Awaited)
+    → SkipsIn now endings then start text (Some (record { 0 = n; 1 = after }))
     → left ≡ drop n text → SkipTurn now endings then start text true after (start + n) left
 skip_taken now endings then start text left n after skips is =
     let long = length-take-le n text skips.0 in (

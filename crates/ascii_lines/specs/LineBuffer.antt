@@ -94,7 +94,8 @@ pub record Refills (old new : WindowState) (source now : SourceState)
   pub size : new.size ≡ old.size
   pub room : new.room ≡ old.room
 
--- what filling a buffer does: `Refills`, or nothing, if calls of the source have failed 2 ^ 64 - 1 times
+-- what filling a buffer does: `Refills`, or nothing, if calls of the source have failed 2 ^ 64 - 1
+-- times
 pub record Fills (old new : WindowState) (source now : SourceState)
     (result : Result (Unit {0}) DeviceFault) : Type 0 where
   pub outcome : MatchResult result

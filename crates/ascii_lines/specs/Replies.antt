@@ -78,8 +78,9 @@ IsRequest (next.Part n) = 0 < n
 IsRequest other = ⊤
 
 -- what happened in a conversation at one time. `took`: the handler was given a line or a part, and
--- gave replies. `rejected`: it was told of an error in place of what it asked for, and gave replies.
--- `skipped`: bytes of a line that was rejected were read over, or none, and the conversation stopped
+-- gave replies. `rejected`: it was told of an error in place of what it asked for, and gave
+-- replies. `skipped`: bytes of a line that was rejected were read over; or none, and the
+-- conversation stopped
 pub data Step : Type 0 where
   took : Line → List Reply → Step
   rejected : LineError → List Reply → Step

@@ -100,9 +100,10 @@ module _ {H : Type 0} (answers : H → Line → List Reply → Next → H → Ty
 
 module _ {H : Type 0} (answers : H → Line → List Reply → Next → H → Type 0)
     (refuses : H → LineError → List Reply → Next → H → Type 0) where
-  -- a conversation over a channel led from the state `old` to the state `new`, and a handler from the
-  -- state `handler` to `last`: what was taken and answered, step by step; and what happened at the
-  -- device. `now` tells whether the input has ended after the bytes that came, or could not be read
+  -- a conversation over a channel led from the state `old` to the state `new`, and a handler from
+  -- the state `handler` to `last`: what was taken and answered, step by step; and what happened at
+  -- the device. `now` tells whether the input has ended after the bytes that came, or could not be
+  -- read
   pub record Talk (old : ChannelState) (handler : H) (new : ChannelState) (last : H) : Type 0 where
     pub steps : List Step
     pub events : List Event
@@ -175,7 +176,8 @@ SendsOut old result new = FlushesOutcome (record { sink = old.sink; state = old.
 
 -- ---- cited by private functions only
 
--- where a server begins: it awaits a line, and `received` come after the bytes that the channel holds
+-- where a server begins: it awaits a line, and `received` come after the bytes that the channel
+-- holds
 abbrev pub first_place : {H : Type 0} → ChannelState → H → List ℕ → Place H
 first_place lines handler received =
     place_with (record lines.talk { awaited = Input next.Line }) handler received

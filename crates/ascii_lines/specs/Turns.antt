@@ -107,8 +107,8 @@ module _ {H : Type 0} (answers : H → Line → List Reply → Next → H → Ty
     (now : Supply) where
   -- one step of a conversation in which `awaited` is awaited, with a buffer of `size` bytes.
   -- `took`: the handler is given the line or part that it asked for. `rejected`: it is told of an
-  -- error in its place. `skipped`: bytes of a line that was rejected are read over; or none, and the
-  -- conversation stops
+  -- error in its place. `skipped`: bytes of a line that was rejected are read over; or none, and
+  -- the conversation stops
   abbrev pub IsTurnAt : Awaited → Place H → Step → Place H → Type 0
   IsTurnAt (Input asked) old (took input said) new = (then : Next) × (what : Wanted)
       × (bytes : List ℕ) × (new.awaited ≡ awaited_by then) × IsRequest then
@@ -139,8 +139,8 @@ module _ {H : Type 0} (answers : H → Line → List Reply → Next → H → Ty
 -- ---- when no step can be taken
 
 -- what is awaited is not among the bytes, which start at the position `start` of the input, nor is
--- a fault of it: they fit in the buffer of `size` bytes, and no line ends in them, or they are fewer
--- than the part. Of a line that was rejected there is one byte at most
+-- a fault of it: they fit in the buffer of `size` bytes, and no line ends in them, or they are
+-- fewer than the part. Of a line that was rejected there is one byte at most
 abbrev pub Lacks : Endings → ℕ → Awaited → ℕ → List ℕ → Type 0
 Lacks endings size (Input next.Line) start text = MustRead (wanted.Line endings) start size text
 Lacks endings size (Input (next.Part n)) start text = MustRead (wanted.Part n) start size text

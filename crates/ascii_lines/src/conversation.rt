@@ -10,9 +10,9 @@
 //! | the input has ended, or its source has failed | `end`, `fail` |
 //! | the replies were sent | `is_closed`, and `stop` for the reason |
 //!
-//! How the bytes are cut changes nothing: feeding one piece and then another is feeding both together. A contract speaks
-//! of the bytes that were fed, of what is awaited, and of the replies; no call has a condition. `serve` is a loop over a
-//! conversation, for a device of both directions.
+//! How the bytes are cut changes nothing: feeding one piece and then another is feeding both together. A contract
+//! speaks of the bytes that were fed, of what is awaited, and of the replies; no call has a condition. `serve` is a
+//! loop over a conversation, for a device of both directions.
 
 ghost use Rattle.std.specs.Prelude.{◌≡◌, ◌≢◌, ◌⊎◌, ◌<◌, ◌≤◌, ◌++◌, ◌↔◌, [], IfOk, IsTrue};
 ghost use Rattle.std.specs.Prelude.{length, take, true};

@@ -196,8 +196,8 @@ impl<S: Source, A: Allocator> LineReader<S, A> {
     /// no ending. With its ending it is no longer than the buffer.
     ///
     /// `None` is returned when every byte of the input was in a line or part that was returned, or was
-    /// skipped, and the source is at its end. An error is returned instead of the next line; if that line has several faults,
-    /// the first one in the order of its bytes:
+    /// skipped, and the source is at its end. An error is returned instead of the next line; if that line has several
+    /// faults, the first one in the order of its bytes:
     ///
     /// - `NotAscii` if that line has a non-ASCII byte among those of its bytes that fit in the buffer.
     ///   The error has the position of the first one.

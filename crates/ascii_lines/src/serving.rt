@@ -180,8 +180,8 @@ impl<K: Sink, A: Allocator> Replies<K, A> {
         self.writer.is_broken()
     }
 
-    /// Sends the replies that were written and flushes the device, or returns `Write` if the device fails, or has failed
-    /// before. `serve` does it before it reads; it is for an event loop that feeds a `Conversation`.
+    /// Sends the replies that were written and flushes the device, or returns `Write` if the device fails, or has
+    /// failed before. `serve` does it before it reads; it is for an event loop that feeds a `Conversation`.
     ///
     ///     let writer = LineWriter::new(alloc, Output::new(Vec::new(alloc)), 64)?;
     ///     let mut replies = Replies::new(writer, Ending::Lf);
@@ -422,8 +422,8 @@ impl<C: Channel, A: Allocator> LineChannel<C, A> {
 /// replies, nothing more is read, and the handler is not asked again. After a read that returned no bytes the device is
 /// not read again.
 ///
-/// If the handler gives each line one reply, asks for the next line and closes at an error, and the input ends, then the
-/// device has taken the reply to each line of the input.
+/// If the handler gives each line one reply, asks for the next line and closes at an error, and the input ends, then
+/// the device has taken the reply to each line of the input.
 ///
 /// Condition: no call of the device to write has failed.
 ///

@@ -15,7 +15,8 @@ returns-in-Some-Ending c =
       c.part_of_line-n.ensures.within,
       omega (arith, part.0, c.ranges.start),
       λ on. part.1.some,
-      skips_end (supply_at c.args.is_ended) c.args.endings c.args.next c.args.start c.args.text.now n
+      skips_end (supply_at c.args.is_ended) c.args.endings c.args.next c.args.start c.args.text.now
+          n
           c.part_of_line-n.ensures.within (omega (arith, c.ranges.start)) c.after_answer.result
           c.after_answer.ensures part,
     )

@@ -49,7 +49,8 @@ returns-in-Some-clause-replies g c =
     let new = saying_of c.flush.new.self in
     λ reply replier is. replied_to_all g.H.Handler.answers
     g.H.Handler.refuses reply replier c.args.lines.now.state c.flush.new.self.state
-    c.args.handler.now c.reads.handler c.in-Some.stop (subst (λ (talk : TalkState). Serves g.H.Handler.answers g.H.Handler.refuses
+    c.args.handler.now c.reads.handler c.in-Some.stop
+    (subst (λ (talk : TalkState). Serves g.H.Handler.answers g.H.Handler.refuses
     c.args.lines.now.state c.args.handler.now c.in-Some.stop (record {
       talk = talk;
       output = c.flush.new.self.state.output;
@@ -68,7 +69,8 @@ pub reads-smaller : goal.reads-smaller
 reads-smaller g c =
     let mid = saying_of c.reads.lines in
     let new = saying_of c.flush.new.self in
-    let apart : ¬ (IsOver c.reads.lines.state.talk.awaited) = stop_none c.reads.lines.state.talk.awaited
+    let apart : ¬ (IsOver c.reads.lines.state.talk.awaited) = stop_none
+    c.reads.lines.state.talk.awaited
     (sym (ap (λ (t : TalkState). stop_of t.awaited) c.flush.ensures.talk)
     ∙ (sym c.stop.ensures ∙ c.in_default.is)) in
     reads_smaller g.H.Handler.answers g.H.Handler.refuses c.args.lines.now.state
@@ -85,7 +87,8 @@ pub reads-preserved : goal.reads-preserved
 reads-preserved g c =
     let mid = saying_of c.reads.lines in
     let new = saying_of c.flush.new.self in
-    let apart : ¬ (IsOver c.reads.lines.state.talk.awaited) = stop_none c.reads.lines.state.talk.awaited
+    let apart : ¬ (IsOver c.reads.lines.state.talk.awaited) = stop_none
+    c.reads.lines.state.talk.awaited
     (sym (ap (λ (t : TalkState). stop_of t.awaited) c.flush.ensures.talk)
     ∙ (sym c.stop.ensures ∙ c.in_default.is)) in
     so_far-read g.H.Handler.answers g.H.Handler.refuses c.args.lines.now.state

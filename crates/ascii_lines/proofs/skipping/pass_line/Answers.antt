@@ -57,4 +57,5 @@ fills-preserved g c =
     passed_more _ _ _ c.pass-passed.new.buffer c.refill.new.self _ b now _ _
     (passes_on _ c.requires.plain _ _ _ _ _ _ _ _ _ c.fills.invariant _ _ c.front.ensures
     c.len.ensures c.part_of_line-n.ensures.within c.pass-passed.ensures _ c.in_default.is
-    c.part_of_line-n.ensures.part) (sym c.is_at_end.ensures ∙ c.if-is_at_end.false) read.1 read.2 read.3 c.in-Ok.ensures.size
+    c.part_of_line-n.ensures.part) (sym c.is_at_end.ensures ∙ c.if-is_at_end.false) read.1 read.2
+    read.3 c.in-Ok.ensures.size

@@ -9,7 +9,8 @@ use Rattle.ascii_lines.proofs.wanted.seek.Given as goal
 abbrev pub invariant-fills : goal.invariant-fills
 invariant-fills g l =
     Gathers (MustRead l.wanted l.start l.fn.buffer.size) l.fn.buffer.held
-    l.fn.buffer.is_at_end l.buffer.is_at_end (source_state g.S.Source l.fn.source) (source_state g.S.Source l.source) l.buffer.held
+    l.fn.buffer.is_at_end l.buffer.is_at_end (source_state g.S.Source l.fn.source)
+    (source_state g.S.Source l.source) l.buffer.held
     × (g.S.Source.failures l.source ≡ g.S.Source.failures l.fn.source)
     × (l.buffer.size ≡ l.fn.buffer.size)
     × (l.buffer.room ≡ l.fn.buffer.room)

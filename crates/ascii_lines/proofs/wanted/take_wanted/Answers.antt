@@ -10,7 +10,8 @@ returns-in_err-may_fit-clause-err g c =
     let error = c.in_err-may_fit.field-0.0 in
     same_err c.from_residual.result error
     (Refuses c.args.wanted c.args.start c.args.buffer.now.size c.args.buffer.now.held
-    c.args.buffer.now.is_at_end c.args.buffer.now.is_at_end a a c.args.buffer.now.held) c.from_residual.ensures.1
+    c.args.buffer.now.is_at_end c.args.buffer.now.is_at_end a a c.args.buffer.now.held)
+    c.from_residual.ensures.1
     (unfit_refuses c.args.wanted c.args.start c.args.buffer.now.size c.args.buffer.now.held
     c.args.buffer.now.is_at_end a error
     (subst (λ size. IsUnfit c.args.wanted c.args.start size error) c.size.ensures
@@ -28,7 +29,8 @@ returns-in_err-end-clause-err g c =
     c.front.ensures c.in_err-end.ensures) in
     same_err c.from_residual-in_err-end.result error
     (Refuses c.args.wanted c.args.start c.args.buffer.now.size c.args.buffer.now.held
-    c.args.buffer.now.is_at_end c.seek.new.buffer.is_at_end a b c.seek.new.buffer.held) c.from_residual-in_err-end.ensures.1
+    c.args.buffer.now.is_at_end c.seek.new.buffer.is_at_end a b c.seek.new.buffer.held)
+    c.from_residual-in_err-end.ensures.1
     (record {
       gathers = found.gathers;
       why = subst

@@ -1,6 +1,7 @@
 use Rattle.std.proofs.Common.{inl, inr, refl, rules, ◌≡◌, true}
 use Rattle.ascii_lines.specs.Turns.{IsOver}
-use Rattle.ascii_lines.proofs.TurnsLemmas.{Going-first, fail_asked, fail_line, fail_over, rests_lacks}
+use Rattle.ascii_lines.proofs.TurnsLemmas.{Going-first, fail_asked, fail_line, fail_over}
+use Rattle.ascii_lines.proofs.TurnsLemmas.{rests_lacks}
 use Rattle.ascii_lines.proofs.TurnsLemmas.{then_breaks}
 use Rattle.ascii_lines.proofs.conversation.Dialogue.fail.Goals as goal
 

@@ -1,4 +1,5 @@
-use Rattle.std.proofs.Common.{rules, ◌≡◌, ◌⊎◌, ◌+◌, ◌++◌, length-append, ap, arith, inl, inr, drop, length, subst, take, ◌∙◌}
+use Rattle.std.proofs.Common.{rules, ◌≡◌, ◌⊎◌, ◌+◌, ◌++◌, length-append, ap, arith, inl, inr, drop}
+use Rattle.std.proofs.Common.{length, subst, take, ◌∙◌}
 use Rattle.std.specs.List.{slice_range}
 use Rattle.std.proofs.lemmas.List.{length-take-le, take_at}
 use Rattle.ascii_lines.specs.LineBuffer.{IsLaidOut, WindowState}
@@ -43,7 +44,8 @@ returns g c =
     take_at new _ i.bytes.len (c.copy_behind-n.ensures.len ∙ c.deref_mut.ensures.len) in
     let front : take i.filled new ≡ take i.filled i.bytes.items =
     c.copy_behind-n.ensures.front ∙ ap (take i.filled) c.deref_mut.ensures.value in
-    let held : slice_range new i.from (i.filled + n) ≡ c.args.self.now.held ++ take n c.args.bytes.now =
+    let held : slice_range new i.from (i.filled + n) ≡ c.args.self.now.held
+    ++ take n c.args.bytes.now =
     held_more i.bytes.items new i.filled front i.from n
     (omega (arith, laid.then_from, laid.then_checked))
     ∙ (ap (λ xs. xs ++ slice_range new i.filled (i.filled + n))

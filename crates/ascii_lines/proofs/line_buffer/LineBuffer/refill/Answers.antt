@@ -1,4 +1,5 @@
-use Rattle.std.proofs.Common.{rules, ◌==◌, ◌≡◌, ◌+◌, ◌++◌, ap, arith, drop, length, subst, take, ◌∙◌}
+use Rattle.std.proofs.Common.{rules, ◌==◌, ◌≡◌, ◌+◌, ◌++◌, ap, arith, drop, length, subst, take}
+use Rattle.std.proofs.Common.{◌∙◌}
 use Rattle.std.specs.List.{slice_range}
 use Rattle.std.proofs.lemmas.List.{take_at}
 use Rattle.ascii.proofs.ListLemmas.{length-slice_range}

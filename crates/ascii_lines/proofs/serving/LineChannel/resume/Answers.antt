@@ -5,7 +5,8 @@ use Rattle.ascii_lines.proofs.ServeLemmas.{resumed}
 use Rattle.ascii_lines.proofs.serving.LineChannel.resume.Goals as goal
 
 pub returns : goal.returns
-returns g c = resumed g.H.Handler.answers g.H.Handler.refuses c.args.self.now.state c.args.handler.now
+returns g c = resumed g.H.Handler.answers g.H.Handler.refuses c.args.self.now.state
+    c.args.handler.now
     c.self.inside.conversation c.self.inside.replies c.resume.new.replies
     (ap (λ (lines : Conversing _). lines.state.talk) c.self.view_is)
     (ap (λ (lines : Conversing _). lines.state.output) c.self.view_is)
