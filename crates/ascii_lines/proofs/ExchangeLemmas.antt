@@ -33,6 +33,7 @@ use Rattle.ascii_lines.specs.declared.wanted.Wanted.{Wanted}
 use Rattle.ascii_lines.specs.declared.wanted.Wanted.TheVariants as wanted
 use Rattle.ascii.proofs.LinesByLemmas.{MayFollow-ended}
 use Rattle.ascii_lines.proofs.LineReaderLemmas.{line_bytes}
+use Rattle.ascii_lines.proofs.TurnsLemmas.{over_ends}
 
 module _ {H : Type 0} (answers : H → Line → List Reply → Next → H → Type 0)
     (refuses : H → LineError → List Reply → Next → H → Type 0) (endings : Endings) (size : ℕ)
@@ -59,13 +60,6 @@ module _ {H : Type 0} (answers : H → Line → List Reply → Next → H → Ty
       go (LineEnd then) (took input said) t runs = absurd t
       go (LineEnd then) (rejected error said) t runs = absurd t
       go (Nothing why) step t runs = absurd t
-
-  -- nothing follows the end of a conversation
-  pub over_ends : (a b : Place H) (steps : List Step) (why : Stop) → a.awaited ≡ Nothing why
-      → Turns answers refuses endings size now a steps b → (steps ≡ []) × (b ≡ a)
-  over_ends a b [] why is same = (refl, same)
-  over_ends a b (step ∷ steps) why is (mid, turn, turns) =
-      absurd (subst (λ w. IsTurnAt answers refuses endings size now w a step mid) is turn)
 
 module _ {H : Type 0} (answers : H → Line → List Reply → Next → H → Type 0)
     (refuses : H → LineError → List Reply → Next → H → Type 0) where

@@ -1,7 +1,7 @@
 -- What a source gave while something was wanted, one read after another.
 use Rattle.std.proofs.Common.{◌≡◌, ◌≢◌, ◌==◌, ◌+◌, ◌<◌, ◌≤◌, List, [], ◌∷◌, ◌++◌, ℕ, Bool, true}
 use Rattle.std.proofs.Common.{ap, append_assoc, append-nil, arith, eqb-true, false, length, refl}
-use Rattle.std.proofs.Common.{subst, sym, ◌∙◌}
+use Rattle.std.proofs.Common.{inl, inr, subst, sym, ◌⊎◌, ◌∙◌}
 use Rattle.std.specs.List.{All, flat_map}
 use Rattle.std.proofs.lemmas.Bool.{false≢true}
 use Rattle.std.proofs.lemmas.List.Elements.{All-head, All-nil, All-push, All-tail}
@@ -114,12 +114,16 @@ module _ (Must : List ℕ → Type 0) (held : List ℕ) (was mid is : Bool) (a b
       (λ ends. is_none read (sym last ∙ ends)) (λ going same. is_some read (sym last ∙ going))
       (λ ends. reads.end (is_none read (sym last ∙ ends))))
 
--- a read more, which failed
+-- a read more, which failed, or was not made
 pub Gathers-failed : (Must : List ℕ → Type 0) (held : List ℕ) (was mid is : Bool)
     (a b c : SourceState) (text new : List ℕ) → Gathers Must held was mid a b text → mid ≡ false
-    → b.failures ≡ a.failures → Must text → FailsOnce b c → new ≡ text → is ≡ mid
+    → b.failures ≡ a.failures → Must text → FailsOnce b c ⊎ (c ≡ b) → new ≡ text → is ≡ mid
     → Gathers Must held was is a c new
-Gathers-failed Must held was mid is a b c text new so_far more kept must fails all last =
+Gathers-failed Must held was mid is a b c text new so_far more kept must (inr same) all last =
+    subst (λ d. Gathers Must held was is a d new) (sym same)
+    (subst (Gathers Must held was is a b) (sym all)
+    (subst (λ e. Gathers Must held was e a b text) (sym last) so_far))
+Gathers-failed Must held was mid is a b c text new so_far more kept must (inl fails) all last =
     subst (Gathers Must held was is a c) (append-nil text ∙ sym all)
     (once Must held was mid is a b c text [] so_far more kept must
     (read_fails of_state b c fails.failures fails.told) fails.told fails.aside (λ _. refl)

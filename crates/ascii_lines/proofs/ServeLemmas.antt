@@ -21,7 +21,7 @@ use Rattle.ascii_devices.specs.Devices.{Aside, Grows, read_of, received_of, sent
 use Rattle.ascii_devices.specs.States.{Gives, SourceState, of_state}
 use Rattle.ascii_devices.specs.declared.log.Event.{Event}
 use Rattle.ascii_devices.specs.declared.log.Event.TheVariants.{Flushed, Read, Received}
-use Rattle.ascii_lines.specs.Exchanges.{said_in}
+use Rattle.ascii_lines.specs.Exchanges.{bytes_of, said_in}
 use Rattle.ascii_lines.specs.Failures.{one_more}
 use Rattle.ascii_lines.specs.History.{AreWrites, EndsInEmptyRead}
 use Rattle.ascii_lines.specs.LineBuffer.{FailsOnce, ReadsOnce, WindowState}
@@ -51,7 +51,7 @@ use Rattle.ascii_lines.proofs.HistoryLemmas.{AtEachRead-received, AtEachRead-wri
 use Rattle.ascii_lines.proofs.HistoryLemmas.{EndsInEmptyRead-writes, IsFlushed-after}
 use Rattle.ascii_lines.proofs.HistoryLemmas.{IsFlushed-last}
 use Rattle.ascii_lines.proofs.HistoryLemmas.{received_of-bytes, received_of-writes, sent_of-bytes}
-use Rattle.ascii_lines.proofs.TurnsLemmas.{Turns-append, Turns-length, Turns-more, said-append}
+use Rattle.ascii_lines.proofs.TurnsLemmas.{Turns-append, Turns-bytes, Turns-more, said-append}
 use Rattle.ascii_lines.proofs.TurnsLemmas.{some_length, supply_ended}
 
 -- what was sent and held, and then more
@@ -758,11 +758,13 @@ module _ {H : Type 0} (answers : H → Line → List Reply → Next → H → Ty
                 → Converses answers refuses endings size now (place_with mid.talk last r.read) r.mid
                 (place_of new next) said → reads_left new < reads_left mid.talk
             go supply.Open (reads, more) c =
-                let moved = Turns-length answers refuses endings size supply.Open
+                let moved = Turns-bytes answers refuses endings size supply.Open
                 (place_with mid.talk last r.read) (place_of new next) c.steps c.turns in
                 omega (
                   arith,
-                  moved,
+                  ap length moved.0,
+                  moved.1,
+                  length-append (bytes_of c.steps) new.held,
                   length-append mid.talk.held r.read,
                   some_length r.read more,
                   same mid.talk apart,

@@ -1,6 +1,6 @@
 -- Where a line ends in bytes that come in two parts.
 use Rattle.std.proofs.Common.{◌≢◌, ◌≡◌, ℕ, ◌+◌, ◌-◌, ◌<◌, ◌≤◌, List, [], ◌++◌, length, get_or}
-use Rattle.std.proofs.Common.{◌==◌, arith, false, inl, true}
+use Rattle.std.proofs.Common.{◌==◌, ◌⊎◌, arith, false, inl, true}
 use Rattle.std.proofs.Common.{inr, length-append, refl, subst, sym, take, drop, None, Option}
 use Rattle.std.proofs.Common.{Some, ◌∷◌, ap, append_assoc, append-nil, ◌∙◌}
 use Rattle.std.proofs.Math.ListN.{get_or-append}
@@ -365,37 +365,28 @@ passed_none endings limit buffer a end = record {
 }
 
 -- a read failed, or was not made
-pub pass_fails : (endings : Endings) (limit : ℕ) (old now after : WindowState)
-    (a b c : SourceState) (passed : Passed) (all : PassedAll endings limit old now a b passed)
-    → Gathers (HasNoEnd endings) old.held old.is_at_end after.is_at_end a c
-    (all.so_far.bytes ++ now.held) → c.failures ≡ one_more b.failures → after.held ≡ now.held
-    → after.size ≡ now.size → PassesLine endings limit old after a c passed end.Failed
-pass_fails endings limit old now after a b c passed all gathers fails is size = record {
-  bytes = all.so_far.bytes;
-  gathers = subst
-      (λ xs. Gathers (HasNoEnd endings) old.held old.is_at_end after.is_at_end a c
-      (all.so_far.bytes ++ xs)) (sym is) gathers;
-  counts = all.so_far.counts;
-  within = all.so_far.within;
-  ends = subst
-      (λ xs. HasNoEnd endings (all.so_far.bytes ++ xs)
-      × (length xs ≤ 1) × IsCleanCut endings all.so_far.bytes xs) (sym is)
-      (all.none, all.one, all.so_far.clean);
-  failures = fails ∙ ap one_more all.so_far.failures;
-  size = size ∙ all.so_far.size;
-}
-
--- a read failed
 pub pass_failed : (endings : Endings) (limit : ℕ) (old now after : WindowState)
     (a b c : SourceState) (passed : Passed) → PassedAll endings limit old now a b passed
-    → now.is_at_end ≡ false → FailsOnce b c → c.failures ≡ one_more b.failures
+    → now.is_at_end ≡ false → FailsOnce b c ⊎ (c ≡ b) → c.failures ≡ one_more b.failures
     → after.held ≡ now.held → after.is_at_end ≡ now.is_at_end → after.size ≡ now.size
     → PassesLine endings limit old after a c passed end.Failed
 pass_failed endings limit old now after a b c passed all more fails count is last size =
-    pass_fails endings limit old now after a b c passed all
-    (Gathers-failed (HasNoEnd endings) old.held old.is_at_end now.is_at_end after.is_at_end a b c
-    (all.so_far.bytes ++ now.held) (all.so_far.bytes ++ now.held) all.so_far.gathers more
-    all.so_far.failures all.none fails refl last) count is size
+    let so_far = all.so_far in
+    record {
+      bytes = so_far.bytes;
+      gathers = Gathers-failed (HasNoEnd endings) old.held old.is_at_end now.is_at_end
+          after.is_at_end a b c (so_far.bytes ++ now.held) (so_far.bytes ++ after.held)
+          so_far.gathers more so_far.failures all.none fails (ap (λ xs. so_far.bytes ++ xs) is)
+          last;
+      counts = so_far.counts;
+      within = so_far.within;
+      ends = subst
+          (λ xs. HasNoEnd endings (so_far.bytes ++ xs)
+          × (length xs ≤ 1) × IsCleanCut endings so_far.bytes xs) (sym is)
+          (all.none, all.one, so_far.clean);
+      failures = count ∙ ap one_more so_far.failures;
+      size = size ∙ so_far.size;
+    }
 
 -- a read has returned no bytes, and the bytes that are left are taken
 pub pass_ends : (endings : Endings) (limit : ℕ) (old now after : WindowState) (a b : SourceState)

@@ -1,6 +1,6 @@
--- Taking what is wanted off a buffer in which a search has found it, or has not.
+-- Looking for what is wanted in a buffer, and taking it off.
 use Rattle.std.proofs.Common.{Bool, true, false, drop, ◌≤◌, take-append-drop, Err, IfErr, None}
-use Rattle.std.proofs.Common.{Ok, OnErr, Result, Some, ◌∷◌}
+use Rattle.std.proofs.Common.{Ok, OnErr, Option, Result, Some, ◌∷◌}
 use Rattle.std.proofs.Common.{◌≡◌, ◌≢◌, ◌⊎◌, ℕ, ◌+◌, ◌-◌, ◌<◌, ◌^◌, List, [], ◌++◌, length, take}
 use Rattle.std.proofs.Common.{get_or}
 use Rattle.std.proofs.Common.{arith, inl, inr, length-append, append-nil, refl, sym, ap, subst, ◌∙◌}
@@ -9,7 +9,7 @@ use Rattle.std.specs.Str.{IsAscii}
 use Rattle.std.proofs.Math.ListN.{get_or-append}
 use Rattle.std.proofs.Math.Seq.{drop-length}
 use Rattle.std.proofs.lemmas.Bool.{cases_lt}
-use Rattle.std.proofs.lemmas.List.{length-take-le, take_all, take_at}
+use Rattle.std.proofs.lemmas.List.{length-take-le, take-take, take_all, take_at}
 use Rattle.std.proofs.lemmas.Option.{none-some}
 use Rattle.ascii.specs.Endings.{FindsLoneBreak, FreeUpTo, IsFirstStop, IsOneLine, IsWhole}
 use Rattle.ascii.specs.Lines.{IsCrLfAt}
@@ -17,20 +17,24 @@ use Rattle.ascii.specs.declared.iter.spans.Endings.{Endings}
 use Rattle.ascii.specs.declared.iter.spans.Endings.TheVariants.{CrLfStrict}
 use Rattle.ascii.proofs.LinesByLemmas.{no_cr_below}
 use Rattle.ascii_devices.specs.States.{SourceState}
-use Rattle.ascii_lines.specs.LineBuffer.{WindowState}
-use Rattle.ascii_lines.specs.LineReader.{FindsEnd, IsTaken, StopsBy, TakesOff}
+use Rattle.ascii_lines.specs.LineBuffer.{IsUsable, WindowState}
+use Rattle.ascii_lines.specs.LineReader.{Finds, FindsEnd, IsLookedFor, IsTaken, Looks, StopsBy}
+use Rattle.ascii_lines.specs.LineReader.{TakesOff, window_at}
 use Rattle.ascii_lines.specs.Wanted.{FindsFault, IsCutOff, IsEndOf, IsFar, IsLoneBreak, IsSearched}
-use Rattle.ascii_lines.specs.Wanted.{EndsAt, Gathers, IsOne, KnowsEnd, IsStrict, IsUnfit, LacksUpTo}
-use Rattle.ascii_lines.specs.Wanted.{MayBeLast}
-use Rattle.ascii_lines.specs.Wanted.{MayHave, MustRead, Refuses, Rejects, failures_after}
+use Rattle.ascii_lines.specs.Wanted.{EndsAt, Gathers, IsOne, IsRefusal, IsStrict, IsUnfit}
+use Rattle.ascii_lines.specs.Wanted.{LacksUpTo, MayBeLast, MayFit, MayHave, MustRead}
+use Rattle.ascii_lines.specs.Wanted.{failures_after}
 use Rattle.ascii_lines.specs.declared.line_reader.LineError.{LineError}
 use Rattle.ascii_lines.specs.declared.line_reader.LineError.TheVariants.{Incomplete, LoneBreak}
 use Rattle.ascii_lines.specs.declared.line_reader.LineError.TheVariants.{NotAscii, Read, TooFar}
 use Rattle.ascii_lines.specs.declared.line_reader.LineError.TheVariants.{TooLong}
+use Rattle.ascii_lines.specs.declared.wanted.Found.{Found}
 use Rattle.ascii_lines.specs.declared.wanted.Wanted.{Wanted}
 use Rattle.ascii_lines.specs.declared.wanted.Wanted.TheVariants.{Line, Bytes, Part}
-use Rattle.ascii_lines.proofs.GathersLemmas.{Gathers-nil}
-use Rattle.ascii_lines.proofs.WantedLemmas.{ends_front, searched_front}
+use Rattle.ascii_lines.proofs.WantedLemmas.{ends_front, ends_whole, lacks_whole, may_front}
+use Rattle.ascii_lines.proofs.WantedLemmas.{must_read, must_reads, rejects, searched_front}
+use Rattle.ascii_lines.proofs.WantedLemmas.{searched_lacks, searched_none, searched_whole}
+use Rattle.ascii_lines.proofs.WantedLemmas.{usable_least}
 
 -- ---- a lone CR or LF
 
@@ -262,39 +266,158 @@ module _ (wanted : Wanted) (start : ℕ) (buffer : WindowState) (n : ℕ)
       go (Part count) may stops none = absurd (none-some i (sym none))
 
   -- why it is not given
-  pub end_rejects : (k : ℕ) (error : LineError) → IsEndOf wanted start bytes is_last (Err error)
-      → Rejects wanted start buffer.size buffer.held buffer.is_at_end error
-      × (failures_after k error ≡ k)
-  end_rejects k (Incomplete count) (is, not_last) =
-      let cut = cut_off not_last in ((omega (arith, is, long, cut.1), cut.0), refl)
-  end_rejects k TooFar beyond = (far beyond, refl)
-  end_rejects k (LoneBreak place) (i, is, lone) =
-      let found = lone_break i lone in
-      ((found.0, (found.1.0, found.1.1, is ∙ found.1.2, found.1.3)), refl)
-  end_rejects k (NotAscii place) end = absurd end
-  end_rejects k (TooLong place) end = absurd end
-  end_rejects k Read end = absurd end
+  pub end_rejects : (error : LineError) → IsEndOf wanted start bytes is_last (Err error)
+      → Looks wanted start buffer (Err error)
+  end_rejects (Incomplete count) (is, not_last) =
+      let cut = cut_off not_last in
+      ((omega (arith, is, long, cut.1), cut.0), λ is. let e : Incomplete count ≡ Read = is in cc)
+  end_rejects TooFar beyond = (far beyond, λ is. let e : TooFar ≡ Read = is in cc)
+  end_rejects (LoneBreak place) (i, is, lone) =
+      let found = lone_break i lone in (
+        (found.0, (found.1.0, found.1.1, is ∙ found.1.2, found.1.3)),
+        λ is. let e : LoneBreak place ≡ Read = is in cc,
+      )
+  end_rejects (NotAscii place) end = absurd end
+  end_rejects (TooLong place) end = absurd end
+  end_rejects Read end = absurd end
 
--- a part does not fit
-pub unfit_refuses : (wanted : Wanted) (start size : ℕ) (held : List ℕ) (is_at_end : Bool)
-    (a : SourceState) (error : LineError) → IsUnfit wanted start size error
-    → KnowsEnd is_at_end a.rest → Refuses wanted start size held is_at_end is_at_end a a held error
-unfit_refuses (Part count) start size held is_at_end a (TooLong place) unfit end = record {
-  gathers = Gathers-nil (MustRead (Part count) start size) held is_at_end a end;
-  why = unfit;
-  failures = refl;
-}
-unfit_refuses (Part count) start size held is_at_end a TooFar unfit end = record {
-  gathers = Gathers-nil (MustRead (Part count) start size) held is_at_end a end;
-  why = unfit;
-  failures = refl;
-}
-unfit_refuses (Part count) start size held is_at_end a (NotAscii place) unfit end = absurd unfit
-unfit_refuses (Part count) start size held is_at_end a (LoneBreak place) unfit end = absurd unfit
-unfit_refuses (Part count) start size held is_at_end a (Incomplete place) unfit end = absurd unfit
-unfit_refuses (Part count) start size held is_at_end a Read unfit end = absurd unfit
-unfit_refuses (Line endings) start size held is_at_end a error unfit end = absurd unfit
-unfit_refuses (Bytes endings) start size held is_at_end a error unfit end = absurd unfit
+  one : (wanted' : Wanted) → StopsBy wanted' buffer n is_last → FindsFault wanted' bytes None
+      → MayBeLast wanted' is_last → bytes ≢ [] → IsOne wanted' bytes
+  one wanted' stops whole last some =
+      go wanted' stops (free_by wanted' buffer n is_last stops) whole last
+    where
+      line : (endings : Endings) → FreeUpTo endings buffer.held (n - 1) → IsWhole endings bytes
+          → IsOneLine endings bytes
+      line endings free whole = (
+        some_bytes bytes some,
+        subst (λ k. FreeUpTo endings bytes (k - 1)) (sym long)
+            (searched_front buffer.held n (n - 1) (omega arith) (Line endings) free),
+        whole,
+      )
+
+      part : (count : ℕ) (is_last' : Bool) → StopsBy (Part count) buffer n is_last'
+          → MayBeLast (Part count) is_last' → length bytes ≡ count
+      part count true stops last = absurd last
+      part count false stops last = long ∙ stops
+
+      go : (wanted' : Wanted) → StopsBy wanted' buffer n is_last
+          → IsSearched wanted' buffer.held (n - 1) → FindsFault wanted' bytes None
+          → MayBeLast wanted' is_last → IsOne wanted' bytes
+      go (Line endings) stops free whole last = line endings free whole
+      go (Bytes endings) stops free whole last = line endings free whole
+      go (Part count) stops free whole last = part count is_last stops last
+
+  -- it is given
+  pub end_found : (place : ℕ) → IsEndOf wanted start bytes is_last (Ok place)
+      → Finds wanted start buffer (record { count = n; end = place; is_last = is_last })
+  end_found place (is, whole, last) = record {
+    ends = finds;
+    place = is ∙ ap (λ k. start + k) long;
+    one = one wanted finds.stops whole last;
+    last = last;
+  }
+
+-- ---- what a look into a buffer finds
+
+module _ (wanted : Wanted) (start : ℕ) (ended : Bool) (buffer : WindowState) where
+  abbrev window : WindowState
+  window = window_at ended buffer
+
+  pub err_looks : (result : Result (Option Found) LineError) (error : LineError)
+      → IsErrAnd result (λ e. e ≡ error) → Looks wanted start window (Err error)
+      → Looks wanted start window result
+  err_looks (Ok found) error is why = absurd is
+  err_looks (Err e) error is why = subst (λ e. Looks wanted start window (Err e)) (sym is) why
+
+  -- a part does not fit
+  pub unfit_looks : (error : LineError) → IsUnfit wanted start buffer.size error
+      → Looks wanted start window (Err error)
+  unfit_looks error unfit = go wanted error unfit
+    where
+      go : (wanted : Wanted) (error : LineError) → IsUnfit wanted start buffer.size error
+          → Looks wanted start window (Err error)
+      go (Part n) (TooLong place) unfit = (unfit, λ is. let e : TooLong place ≡ Read = is in cc)
+      go (Part n) TooFar unfit = (unfit, λ is. let e : TooFar ≡ Read = is in cc)
+      go (Part n) (NotAscii place) unfit = absurd unfit
+      go (Part n) (LoneBreak place) unfit = absurd unfit
+      go (Part n) (Incomplete count) unfit = absurd unfit
+      go (Part n) Read unfit = absurd unfit
+      go (Line endings) error unfit = absurd unfit
+      go (Bytes endings) error unfit = absurd unfit
+
+  module _ (part : List ℕ) (usable : IsUsable wanted buffer part) where
+    -- what was searched is among the bytes that may be in what is wanted
+    pub looked_for : (searched : ℕ) → IsLookedFor wanted start buffer searched
+        → (searched ≤ length part) × IsSearched wanted part searched
+    looked_for searched looked = elim looked [
+      | inl none ↦ (
+        omega (arith, none),
+        subst (IsSearched wanted part) (sym none) (searched_none wanted part),
+      )
+      | inr (low, must) ↦
+          let front = take searched buffer.held in
+          let long = length-take-le searched buffer.held low in
+          let read = must_reads wanted start buffer.size front must in
+          let within = usable_least wanted buffer part usable searched low
+          (omega (arith, long, read.0)) read.1 in (
+            within,
+            subst (λ xs. IsSearched wanted xs searched) (sym usable.front)
+                (searched_front buffer.held (length part) searched within wanted
+                (searched_whole buffer.held searched searched (omega arith) wanted
+                (subst (IsSearched wanted front) long
+                (searched_lacks wanted front (length front) read.2)))),
+          )
+    ]
+
+    pub find_ends : (n : ℕ) → (n ≤ length part) × EndsAt wanted part n
+        → FindsEnd wanted window n false
+    find_ends n found = record {
+      within = omega (arith, found.0, usable.within);
+      fits = omega (arith, found.0, usable.fits);
+      may = subst (MayHave wanted)
+          (ap (take n) usable.front ∙ take-take n (length part) buffer.held found.0)
+          (may_front wanted part n usable.may);
+      stops = ends_whole buffer.held (length part) n found.0 wanted
+          (subst (λ text. EndsAt wanted text n) usable.front found.1);
+    }
+
+    module _ (lacks : LacksUpTo wanted part (length part)) where
+      pub refusal_looks : length part < length buffer.held → (error : LineError)
+          → IsRefusal start (length part) buffer.size error → Looks wanted start window (Err error)
+      refusal_looks less error refusal = (
+        rejects wanted start buffer.size buffer part usable refl lacks less ended error refusal,
+        λ is. subst (IsRefusal start (length part) buffer.size) is refusal,
+      )
+
+      -- more bytes have to come
+      pub look_waits : ended ≡ false → MayFit wanted start buffer.size
+          → length buffer.held ≤ length part → Looks wanted start window (Ok None)
+      look_waits is fit long =
+          (is, must_read wanted start buffer.size buffer part usable refl lacks fit long)
+
+      -- the bytes that are left are all that there will be
+      pub find_last : ended ≡ true → length buffer.held ≤ length part
+          → FindsEnd wanted window (length part) true
+      find_last is long = record {
+        within = usable.within;
+        fits = usable.fits;
+        may = subst (MayHave wanted) usable.front usable.may;
+        stops = (
+          omega (arith, long, usable.within),
+          is,
+          lacks_whole buffer.held (length part) (length part) (omega arith) wanted
+              (subst (λ xs. LacksUpTo wanted xs (length part)) usable.front lacks),
+        );
+      }
+
+-- no read has failed, if the error is not that of one
+pub counts_none : (n : ℕ) (error : LineError) → error ≢ Read → failures_after n error ≡ n
+counts_none n (NotAscii place) other = refl
+counts_none n (LoneBreak place) other = refl
+counts_none n (TooLong place) other = refl
+counts_none n TooFar other = refl
+counts_none n (Incomplete count) other = refl
+counts_none n Read other = absurd (other refl)
 
 -- the error of a call that another returns
 pub same_err : {T E : Type 0} (result : Result T E) (error : E) (P : E → Type 0)
@@ -307,85 +430,45 @@ on_error (Ok _) holds = tt
 on_error (Err _) holds = holds
 
 -- what was taken
-module _ (wanted : Wanted) (start : ℕ) (old buffer new : WindowState) (a b : SourceState) (n : ℕ)
-    (is_last : Bool) (finds : FindsEnd wanted buffer n is_last)
-    (gathers : Gathers (MustRead wanted start old.size) old.held old.is_at_end buffer.is_at_end a b
-    buffer.held)
-    (same : buffer.size ≡ old.size) (kept : b.failures ≡ a.failures)
-    (given : new.given ≡ take n buffer.held) (held : new.held ≡ drop n buffer.held)
-    (at_end : new.is_at_end ≡ buffer.is_at_end) where
-  taken : (wanted' : Wanted) (is_last' : Bool) → StopsBy wanted' buffer n is_last'
-      → IsTaken wanted' is_last' new
-  taken wanted' true stops = (
-    held ∙ (ap (λ k. drop k buffer.held) stops.0 ∙ drop-length buffer.held),
-    at_end ∙ stops.1,
-    subst (λ text. LacksUpTo wanted' text (length text))
-        (sym (given ∙ take_all n buffer.held (omega (arith, stops.0))))
-        (subst (LacksUpTo wanted' buffer.held) stops.0 stops.2),
-  )
-  taken wanted' false stops =
-      subst (λ text. EndsAt wanted' text (length text)) (sym given)
-      (subst (EndsAt wanted' (take n buffer.held)) (sym (length-take-le n buffer.held finds.within))
-      (ends_front buffer.held n n (omega arith) wanted' stops))
+pub takes_off : (wanted : Wanted) (start : ℕ) (old buffer new : WindowState) (a b : SourceState)
+    (found : Found) → Finds wanted start buffer found
+    → Gathers (MustRead wanted start old.size) old.held old.is_at_end buffer.is_at_end a b
+    buffer.held
+    → buffer.size ≡ old.size → b.failures ≡ a.failures → new.given ≡ take found.count buffer.held
+    → new.held ≡ drop found.count buffer.held → new.is_at_end ≡ buffer.is_at_end
+    → TakesOff wanted start old new a b found.end found.is_last
+takes_off wanted start old buffer new a b found finds gathers same kept given held at_end = record {
+  delivers = record {
+    gathers = subst
+        (λ is. Gathers (MustRead wanted start old.size) old.held old.is_at_end is a b
+        (new.given ++ new.held)) (sym at_end)
+        (subst
+        (Gathers (MustRead wanted start old.size) old.held old.is_at_end buffer.is_at_end a b)
+        (sym (take-append-drop found.count buffer.held)
+        ∙ (ap (λ xs. xs ++ drop found.count buffer.held) (sym given)
+        ∙ ap (λ xs. new.given ++ xs) (sym held))) gathers);
+    may = subst (MayHave wanted) (sym given) finds.ends.may;
+    fits = omega (arith, long, finds.ends.fits, same);
+    failures = kept;
+  };
+  place_is = finds.place ∙ ap (λ k. start + k) (sym long);
+  taken = taken found.is_last finds.ends.stops;
+  last = finds.last;
+  one = subst (λ bytes. bytes ≢ [] → IsOne wanted bytes) (sym given) finds.one;
+}
+  where
+    long : length new.given ≡ found.count
+    long = ap length given ∙ length-take-le found.count buffer.held finds.ends.within
 
-  one : (wanted' : Wanted) → StopsBy wanted' buffer n is_last
-      → FindsFault wanted' (take n buffer.held) None → MayBeLast wanted' is_last
-      → new.given ≢ [] → IsOne wanted' new.given
-  one wanted' stops whole last some = subst (IsOne wanted') (sym given)
-      (go wanted' stops (free_by wanted' buffer n is_last stops) whole last)
-    where
-      long : length (take n buffer.held) ≡ n
-      long = length-take-le n buffer.held finds.within
-
-      low : 0 < length (take n buffer.held)
-      low = some_bytes (take n buffer.held) (λ none. some (given ∙ none))
-
-      line : (endings : Endings) → FreeUpTo endings buffer.held (n - 1)
-          → IsWhole endings (take n buffer.held) → IsOneLine endings (take n buffer.held)
-      line endings free whole = (
-        low,
-        subst (λ k. FreeUpTo endings (take n buffer.held) (k - 1)) (sym long)
-            (searched_front buffer.held n (n - 1) (omega arith) (Line endings) free),
-        whole,
-      )
-
-      part : (count : ℕ) (is_last' : Bool) → StopsBy (Part count) buffer n is_last'
-          → MayBeLast (Part count) is_last' → length (take n buffer.held) ≡ count
-      part count true stops last = absurd last
-      part count false stops last = long ∙ stops
-
-      go : (wanted' : Wanted) → StopsBy wanted' buffer n is_last
-          → IsSearched wanted' buffer.held (n - 1)
-          → FindsFault wanted' (take n buffer.held) None → MayBeLast wanted' is_last
-          → IsOne wanted' (take n buffer.held)
-      go (Line endings) stops free whole last = line endings free whole
-      go (Bytes endings) stops free whole last = line endings free whole
-      go (Part count) stops free whole last = part count is_last stops last
-
-  pub takes_off : (place : ℕ) → IsEndOf wanted start (take n buffer.held) is_last (Ok place)
-      → TakesOff wanted start old new a b place is_last
-  takes_off place (place_is, whole, last) = record {
-    delivers = record {
-      gathers = subst
-          (λ is. Gathers (MustRead wanted start old.size) old.held old.is_at_end is a b
-          (new.given ++ new.held)) (sym at_end)
-          (subst
-          (Gathers (MustRead wanted start old.size) old.held old.is_at_end buffer.is_at_end a b)
-          (sym (take-append-drop n buffer.held)
-          ∙ (ap (λ xs. xs ++ drop n buffer.held) (sym given)
-          ∙ ap (λ xs. new.given ++ xs) (sym held))) gathers);
-      may = subst (MayHave wanted) (sym given) finds.may;
-      fits = omega (
-        arith,
-        ap length given,
-        length-take-le n buffer.held finds.within,
-        finds.fits,
-        same,
-      );
-      failures = kept;
-    };
-    place_is = place_is ∙ ap (λ (xs : List ℕ). start + length xs) (sym given);
-    taken = taken wanted is_last finds.stops;
-    last = last;
-    one = one wanted finds.stops whole last;
-  }
+    taken : (is_last : Bool) → StopsBy wanted buffer found.count is_last
+        → IsTaken wanted is_last new
+    taken true stops = (
+      held ∙ (ap (λ k. drop k buffer.held) stops.0 ∙ drop-length buffer.held),
+      at_end ∙ stops.1,
+      subst (λ text. LacksUpTo wanted text (length text))
+          (sym (given ∙ take_all found.count buffer.held (omega (arith, stops.0))))
+          (subst (LacksUpTo wanted buffer.held) stops.0 stops.2),
+    )
+    taken false stops = subst (EndsAt wanted new.given) (sym long)
+        (subst (λ text. EndsAt wanted text found.count) (sym given)
+        (ends_front buffer.held found.count found.count (omega arith) wanted stops))

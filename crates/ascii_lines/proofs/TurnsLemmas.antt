@@ -9,31 +9,27 @@ use Rattle.std.proofs.Math.Seq.{drop-length, take-append_seam}
 use Rattle.std.proofs.lemmas.Bool.{false≢true}
 use Rattle.std.proofs.Common.{get_or}
 use Rattle.std.proofs.lemmas.List.{get_or-drop, length-drop}
-use Rattle.std.proofs.lemmas.List.{length-take-le, nil_from_length, take-append-drop, take-take}
-use Rattle.std.specs.Prelude.{IsErrAnd}
+use Rattle.std.proofs.lemmas.List.{length-take-le, nil_from_length, take-append-drop}
 use Rattle.std.proofs.lemmas.Str.Ascii.{IsAscii-nil}
 use Rattle.std.specs.Str.{IsAscii}
 use Rattle.ascii.proofs.EndingsLemmas.{FreeUpTo-more}
 use Rattle.ascii.specs.Endings.{FreeUpTo, IsFirstStop, any_text}
-use Rattle.ascii.specs.Lines.{Line}
+use Rattle.ascii.specs.Lines.{Line, ending_text, line_text}
 use Rattle.ascii.specs.declared.iter.spans.Endings.{Endings}
-use Rattle.ascii_devices.specs.Devices.{no_aside}
-use Rattle.ascii_devices.specs.States.{SourceState}
-use Rattle.ascii_lines.specs.Exchanges.{said_in}
-use Rattle.ascii_lines.specs.LineBuffer.{IsUsable, WindowState}
-use Rattle.ascii_lines.specs.LineReader.{FindsEnd, StopsBy}
+use Rattle.ascii_lines.specs.Exchanges.{bytes_of, said_in, step_bytes}
+use Rattle.ascii_lines.specs.LineBuffer.{WindowState}
+use Rattle.ascii_lines.specs.LineReader.{Finds, Looks, StopsBy, window_at}
 use Rattle.ascii_lines.specs.Replies.{IsInputOf, IsRequest, Reply, Says, Saying, Step}
 use Rattle.ascii_lines.specs.Replies.{at_end_before}
 use Rattle.ascii_lines.specs.Replies.{rejected, skipped, took}
 use Rattle.ascii_lines.specs.Skipping.{HasNoEnd, IsFinal, TakesPart, WhyNotSkipped}
-use Rattle.ascii_lines.specs.Turns.{Completes, Converses, Faults, Finds, GoesTo, IsLookedFor}
+use Rattle.ascii_lines.specs.Turns.{Completes, Converses, Faults, GoesTo}
 use Rattle.ascii_lines.specs.Turns.{IsOver, IsRequested, IsSearchedFor, IsSound, IsTurn, IsTurnAt}
-use Rattle.ascii_lines.specs.Turns.{Lacks, Looks, Place, Rests, SkipTurn, SkipsIn, SkipsTo, Stops}
+use Rattle.ascii_lines.specs.Turns.{Lacks, Place, Rests, SkipTurn, SkipsIn, SkipsTo, Stops}
 use Rattle.ascii_lines.specs.Turns.{TalkState, TurnOutcome, Turns, Wants, awaited_by, is_ended}
-use Rattle.ascii_lines.specs.Turns.{left_of, place_at, place_of, place_with, supply_at, window_at}
+use Rattle.ascii_lines.specs.Turns.{left_of, place_at, place_of, place_with, supply_at}
 use Rattle.ascii_lines.specs.Turns.{with_more}
-use Rattle.ascii_lines.specs.Wanted.{EndsAt, IsEndOf, IsOne, IsUnfit, MayBeLast, MayHave, MustRead}
-use Rattle.ascii_lines.specs.Wanted.{IsRefusal, IsSearched, LacksUpTo, MayFit, Rejects}
+use Rattle.ascii_lines.specs.Wanted.{EndsAt, IsOne, MayBeLast, Rejects}
 use Rattle.ascii_lines.specs.declared.conversation.Awaited.{Awaited}
 use Rattle.ascii_lines.specs.declared.conversation.Awaited.TheVariants.{Input, LineEnd, Nothing}
 use Rattle.ascii_lines.specs.declared.conversation.Supply.{Supply}
@@ -44,16 +40,13 @@ use Rattle.ascii_lines.specs.declared.serving.Next.{Next}
 use Rattle.ascii_lines.specs.declared.serving.Next.TheVariants as next
 use Rattle.ascii_lines.specs.declared.serving.Stop.{Stop}
 use Rattle.ascii_lines.specs.declared.serving.Stop.TheVariants as stop
+use Rattle.ascii_lines.specs.declared.wanted.Found.{Found}
 use Rattle.ascii_lines.specs.declared.wanted.Wanted.{Wanted}
 use Rattle.ascii_lines.specs.declared.wanted.Wanted.TheVariants as wanted
 use Rattle.ascii_lines.specs.declared.skipping.PassEnd.TheVariants as end
-use Rattle.ascii_lines.proofs.GathersLemmas.{Gathers-nil}
 use Rattle.ascii_lines.proofs.ReplyLemmas.{Says-nil, Says-trans}
 use Rattle.ascii_lines.proofs.SkippingLemmas.{clean_more}
-use Rattle.ascii_lines.proofs.TakesLemmas.{end_rejects, takes_off}
-use Rattle.ascii_lines.proofs.WantedLemmas.{ends_front, ends_whole, lacks_whole, may_front}
-use Rattle.ascii_lines.proofs.WantedLemmas.{must_read, rejects, searched_front, searched_none}
-use Rattle.ascii_lines.proofs.WantedLemmas.{usable_least}
+use Rattle.ascii_lines.proofs.WantedLemmas.{ends_front, searched_front}
 
 pub said-append : (xs ys : List Step) → said_in (xs ++ ys) ≡ said_in xs ++ said_in ys
 said-append [] ys = refl
@@ -66,6 +59,62 @@ said-append (skipped bytes ∷ xs) ys = said-append xs ys
 pub supply_ended : (is_at_end : Bool) → is_ended (supply_at is_at_end) ≡ is_at_end
 supply_ended true = refl
 supply_ended false = refl
+
+-- ---- the bytes of steps
+
+input_bytes : (what : Wanted) (bytes : List ℕ) (input : Line) → IsInputOf what bytes input
+    → line_text input ≡ bytes
+input_bytes (wanted.Part n) bytes input is = ap (λ end. input.body ++ ending_text end) is.1
+    ∙ (append-nil input.body ∙ is.0)
+input_bytes (wanted.Line endings) bytes input is = is.1
+input_bytes (wanted.Bytes endings) bytes input is = is.1
+
+module _ {H : Type 0} (answers : H → Line → List Reply → Next → H → Type 0)
+    (refuses : H → LineError → List Reply → Next → H → Type 0) (endings : Endings) (size : ℕ)
+    (now : Supply) where
+  -- nothing follows the end of a conversation
+  pub over_ends : (a b : Place H) (steps : List Step) (why : Stop) → a.awaited ≡ Nothing why
+      → Turns answers refuses endings size now a steps b → (steps ≡ []) × (b ≡ a)
+  over_ends a b [] why is same = (refl, same)
+  over_ends a b (step ∷ steps) why is (mid, turn, turns) =
+      absurd (subst (λ w. IsTurnAt answers refuses endings size now w a step mid) is turn)
+
+  pub turn_bytes : (a b : Place H) (step : Step) → IsTurn answers refuses endings size now a step b
+      → (a.text ≡ step_bytes step ++ b.text) × (b.start ≡ a.start + length (step_bytes step))
+  turn_bytes a b step turn = go a.awaited step turn
+    where
+      go : (awaited : Awaited) (step : Step)
+          → IsTurnAt answers refuses endings size now awaited a step b
+          → (a.text ≡ step_bytes step ++ b.text) × (b.start ≡ a.start + length (step_bytes step))
+      go (Input asked) (took input said) t =
+          let is = input_bytes t.1 t.2 input t.6 in (
+            t.9 ∙ ap (λ xs. xs ++ b.text) (sym is),
+            t.10 ∙ ap (λ (xs : List ℕ). a.start + length xs) (sym is),
+          )
+      go (Input asked) (rejected error said) t = (sym t.7, omega (arith, t.8))
+      go (Input asked) (skipped bytes) t = (
+        sym (ap (λ (p : Place H). p.text) t.3) ∙ ap (λ xs. xs ++ b.text) (sym t.1),
+        omega (arith, ap (λ (p : Place H). p.start) t.3, ap length t.1),
+      )
+      go (LineEnd then) (skipped bytes) t = (t.1, t.2)
+      go (LineEnd then) (took input said) t = absurd t
+      go (LineEnd then) (rejected error said) t = absurd t
+      go (Nothing why) step t = absurd t
+
+  -- steps take bytes, and go on after them
+  pub Turns-bytes : (a b : Place H) (steps : List Step)
+      → Turns answers refuses endings size now a steps b
+      → (a.text ≡ bytes_of steps ++ b.text) × (b.start ≡ a.start + length (bytes_of steps))
+  Turns-bytes a b [] same = (
+    sym (ap (λ (p : Place H). p.text) same),
+    omega (arith, ap (λ (p : Place H). p.start) same),
+  )
+  Turns-bytes a b (step ∷ steps) (mid, turn, turns) =
+      let first = turn_bytes a mid step turn in let then = Turns-bytes mid b steps turns in (
+        first.0 ∙ (ap (λ xs. step_bytes step ++ xs) then.0
+            ∙ sym (append_assoc (step_bytes step) (bytes_of steps) b.text)),
+        omega (arith, first.1, then.1, length-append (step_bytes step) (bytes_of steps)),
+      )
 
 -- ---- more bytes
 
@@ -218,23 +267,19 @@ module _ {H : Type 0} (answers : H → Line → List Reply → Next → H → Ty
           → GoesTo asked error then b.awaited → Faults supply.Open what a.start size a.text error
           → now ≡ supply.Ended → a.text ++ more ≡ [] → error ≡ fault.Incomplete 0
       shown what asked then error wants goes (seen, others, is, why, read, some) ended none =
+          let late = at_end_before others false in
+          let empty : seen ≡ [] = nil_from_length seen (omega (
+            arith,
+            ap length none,
+            length-append a.text more,
+            ap length is,
+            length-append seen others,
+          )) in
           elim goes [
-            | inl on ↦
-                let line : what ≡ wanted.Line endings = subst (λ n. Wants endings n what) on.1 wants
-                in
-                let empty : seen ≡ [] = nil_from_length seen (omega (
-                  arith,
-                  ap length none,
-                  length-append a.text more,
-                  ap length is,
-                  length-append seen others,
-                )) in
-                absurd (on.2 (nothing_shown endings a.start size (at_end_before others false) error
-                (subst (λ xs. Rejects (wanted.Line endings) a.start size xs (at_end_before others
-                false)
-                error) empty
-                (subst (λ w. Rejects w a.start size seen (at_end_before others false) error) line
-                why))))
+            | inl on ↦ absurd (on.2 (nothing_shown endings a.start size late error
+                (subst (λ xs. Rejects (wanted.Line endings) a.start size xs late error) empty
+                (subst (λ w. Rejects w a.start size seen late error)
+                (subst (λ n. Wants endings n what) on.1 wants) why))))
             | inr over ↦ absurd (apart ended (stop.Reader error, over.0))
           ]
 
@@ -290,14 +335,6 @@ module _ {H : Type 0} (answers : H → Line → List Reply → Next → H → Ty
       go (LineEnd then) (rejected error said) t = absurd t
       go (Nothing why) step t = absurd t
 
-  -- a conversation that is over takes no steps
-  over_stays : (a b : Place H) (steps : List Step)
-      → Turns answers refuses endings size supply.Open a steps b → IsOver a.awaited
-      → IsOver b.awaited
-  over_stays a b [] same over = subst (λ (p : Place H). IsOver p.awaited) (sym same) over
-  over_stays a b (x ∷ steps) turns over = absurd
-      (subst (λ w. IsTurnAt answers refuses endings size supply.Open w a x turns.0) over.1 turns.1)
-
   pub Turns-more : (a b : Place H) (steps : List Step) (more : List ℕ)
       → (now ≡ supply.Ended → ¬ (IsOver b.awaited))
       → Turns answers refuses endings size supply.Open a steps b
@@ -306,34 +343,14 @@ module _ {H : Type 0} (answers : H → Line → List Reply → Next → H → Ty
   Turns-more a b (x ∷ steps) more apart turns = (
     with_more turns.0 more,
     turn-more a turns.0 x more
-        (λ ended over. apart ended (over_stays turns.0 b steps turns.2 over)) turns.1,
+        (λ ended over. apart ended (
+          over.0,
+          ap (λ (p : Place H). p.awaited)
+              (over_ends answers refuses endings size supply.Open turns.0 b steps over.0 over.1 turns.2).1
+              ∙ over.1,
+        )) turns.1,
     Turns-more turns.0 b steps more apart turns.2,
   )
-
-  turn-length : (a b : Place H) (step : Step) → IsTurn answers refuses endings size now a step b
-      → a.start + length a.text ≡ b.start + length b.text
-  turn-length a b step turn = go a.awaited step turn
-    where
-      go : (awaited : Awaited) (step : Step) → IsTurnAt answers refuses endings size now awaited a
-          step b
-          → a.start + length a.text ≡ b.start + length b.text
-      go (Input asked) (took input said) t =
-          omega (arith, ap length t.9, length-append t.2 b.text, t.10)
-      go (Input asked) (rejected error said) t = omega (arith, ap length t.7, t.8)
-      go (Input asked) (skipped bytes) t = sym (ap (λ (p : Place H). p.start + length p.text) t.3)
-      go (LineEnd then) (skipped bytes) t =
-          omega (arith, ap length t.1, length-append bytes b.text, t.2)
-      go (LineEnd then) (took input said) t = absurd t
-      go (LineEnd then) (rejected error said) t = absurd t
-      go (Nothing why) step t = absurd t
-
-  -- steps take bytes, and go on after them
-  pub Turns-length : (a b : Place H) (steps : List Step)
-      → Turns answers refuses endings size now a steps b
-      → a.start + length a.text ≡ b.start + length b.text
-  Turns-length a b [] same = sym (ap (λ (p : Place H). p.start + length p.text) same)
-  Turns-length a b (x ∷ steps) turns =
-      turn-length a turns.0 x turns.1 ∙ Turns-length turns.0 b steps turns.2
 
   -- the steps of some bytes, and then those of more bytes, are the steps of both together
   pub feed-feed : (a b c : Place H) (xs ys : List Step) (more : List ℕ)
@@ -346,47 +363,17 @@ module _ {H : Type 0} (answers : H → Line → List Reply → Next → H → Ty
 
 -- ---- what is awaited
 
-pub sound_by : (now : Supply) (then : Next) (text : List ℕ) → IsRequest then
+sound_by : (now : Supply) (then : Next) (text : List ℕ) → IsRequest then
     → IsSound now (awaited_by then) text
-sound_by now next.Line text request = record {
-  request = tt;
-  used = λ is. let e : Input next.Line ≡ Nothing stop.EndOfInput = is in cc;
-  written = λ is. let e : Input next.Line ≡ Nothing stop.Writer = is in cc;
-}
-sound_by now (next.Part n) text request = record {
-  request = request;
-  used = λ is. let e : Input (next.Part n) ≡ Nothing stop.EndOfInput = is in cc;
-  written = λ is. let e : Input (next.Part n) ≡ Nothing stop.Writer = is in cc;
-}
-sound_by now next.Close text request = record {
-  request = tt;
-  used = λ is. let e : Nothing stop.Closed ≡ Nothing stop.EndOfInput = is in cc;
-  written = λ is. let e : Nothing stop.Closed ≡ Nothing stop.Writer = is in cc;
-}
+sound_by now next.Line text request = tt
+sound_by now (next.Part n) text request = request
+sound_by now next.Close text request = tt
 
-sound_line : (now : Supply) (then : Next) (text : List ℕ) → IsRequest then
-    → IsSound now (LineEnd then) text
-sound_line now then text request = record {
-  request = request;
-  used = λ is. let e : LineEnd then ≡ Nothing stop.EndOfInput = is in cc;
-  written = λ is. let e : LineEnd then ≡ Nothing stop.Writer = is in cc;
-}
-
-sound_fault : (now : Supply) (error : LineError) (text : List ℕ)
-    → IsSound now (Nothing (stop.Reader error)) text
-sound_fault now error text = record {
-  request = tt;
-  used = λ is. let e : Nothing (stop.Reader error) ≡ Nothing stop.EndOfInput = is in cc;
-  written = λ is. let e : Nothing (stop.Reader error) ≡ Nothing stop.Writer = is in cc;
-}
-
-sound_end : (now : Supply) (text : List ℕ) → now ≡ supply.Ended → text ≡ []
-    → IsSound now (Nothing stop.EndOfInput) text
-sound_end now text ended none = record {
-  request = tt;
-  used = λ is. (ended, none);
-  written = λ is. let e : Nothing stop.EndOfInput ≡ Nothing stop.Writer = is in cc;
-}
+sound_request : (now : Supply) (awaited : Awaited) (text : List ℕ) → IsSound now awaited text
+    → IsRequested awaited
+sound_request now (Input asked) text sound = sound
+sound_request now (LineEnd then) text sound = sound
+sound_request now (Nothing why) text sound = tt
 
 left_by : (then : Next) (text : List ℕ) → left_of (awaited_by then) text ≤ 2 * length text + 2
 left_by next.Line text = omega arith
@@ -511,14 +498,16 @@ module _ {H K : Type 0} (answers : H → Line → List Reply → Next → H → 
       then_goes is =
           let t = moved true is in
           let more = steps-more new after t.0 t.1 t.2 in
+          let sound = λ (at : Awaited) (same : new.awaited ≡ at).
+          subst (λ a. IsSound now a new.text) same t.3 in
           record {
             steps = more.0;
             turns = more.1;
             says = more.2;
-            request = t.3.request;
-            used = λ is. (t.3.used is).1;
-            ended = λ is. inr (t.3.used is).0;
-            failed = λ is. absurd (t.3.written is);
+            request = sound_request now new.awaited new.text t.3;
+            used = λ is. (sound (Nothing stop.EndOfInput) is).1;
+            ended = λ is. inr (sound (Nothing stop.EndOfInput) is).0;
+            failed = λ is. absurd (sound (Nothing stop.Writer) is);
           }
 
       pub then_smaller : result ≡ true → left_of new.awaited new.text < left_of mid.awaited mid.text
@@ -684,7 +673,7 @@ module _ {H K : Type 0} (answers : H → Line → List Reply → Next → H → 
 -- ---- one step
 
 -- what is returned has a byte
-ends_some : (endings : Endings) (asked : Next) (what : Wanted) (text : List ℕ) (n : ℕ)
+pub ends_some : (endings : Endings) (asked : Next) (what : Wanted) (text : List ℕ) (n : ℕ)
     → Wants endings asked what → IsRequested (Input asked) → EndsAt what text n → 0 < n
 ends_some endings next.Line what text n wants some ends =
     let stop : IsFirstStop endings text n = subst (λ w. EndsAt w text n) wants ends in stop.some
@@ -705,33 +694,28 @@ module _ {H K : Type 0} (answers : H → Line → List Reply → Next → H → 
   abbrev now : Supply
   now = supply_at ended
 
-  pub turn_takes : (asked : Next) (what : Wanted) (n end : ℕ) (input : Line) (gave : List Reply)
-      (then : Next) (given left : List ℕ) → Wants endings asked what → IsRequested (Input asked)
-      → (ended ≡ true → text ≢ [])
-      → (buffer : WindowState) → buffer.held ≡ text → Finds ended what start buffer n end
-      → given ≡ take n text → left ≡ drop n text
+  pub turn_takes : (asked : Next) (what : Wanted) (found : Found) (input : Line)
+      (gave : List Reply) (then : Next) (given left : List ℕ) → Wants endings asked what
+      → IsRequested (Input asked) → (ended ≡ true → text ≢ [])
+      → (buffer : WindowState) → buffer.held ≡ text
+      → Finds what start (window_at ended buffer) found
+      → given ≡ take found.count text → left ≡ drop found.count text
       → (IsOne what given → IsInputOf what given input) → Says out gave said
       → answers handler input gave then last → IsRequest then
       → TurnOutcome answers refuses endings size now (place_at (Input asked) handler start text) out
-      true (place_at (awaited_by then) last end left) said
-  turn_takes asked what n end input gave then given left wants asks some buffer same finds front
+      true (place_at (awaited_by then) last found.end left) said
+  turn_takes asked what found input gave then given left wants asks some buffer same finds front
       rest is says tells request =
-      let found : Finds ended what start (record buffer { held = text }) n end =
-      subst (λ xs. Finds ended what start (record buffer { held = xs }) n end) same finds in
-      let long : length given ≡ n = ap length front ∙ length-take-le n text found.within in
-      let low : 0 < n = elim found.stops [
-        | inl ends ↦ ends_some endings asked what (take n text) n wants asks ends
-        | inr last ↦ omega (arith, last.1, some_length text (some last.0))
-      ] in
-      let one : IsOne what given = subst (IsOne what) (sym front) (found.one (λ none.
-      absurd (omega (arith, ap length none, long, ap length front, low)))) in
-      let all : text ≡ given ++ left = sym (take-append-drop n text)
-      ∙ (ap (λ xs. xs ++ drop n text) (sym front) ∙ ap (λ xs. given ++ xs) (sym rest)) in
-      let completes : Completes now what given left = elim found.stops [
-        | inl ends ↦ inl (subst (EndsAt what given) (sym long)
-            (subst (λ xs. EndsAt what xs n) (sym front) ends))
-        | inr last ↦ inr (ap supply_at last.0, none_left text left n last.1 rest, last.2)
-      ] in (
+      let f : Finds what start (window_at ended (record buffer { held = text })) found =
+      subst (λ xs. Finds what start (window_at ended (record buffer { held = xs })) found) same finds
+      in
+      let long : length given ≡ found.count =
+      ap length front ∙ length-take-le found.count text f.ends.within in
+      let stops = go long found.is_last f.ends.stops f.last in
+      let one : IsOne what given = subst (IsOne what) (sym front) (f.one (λ none.
+      absurd (omega (arith, ap length none, long, ap length front, stops.0)))) in
+      let all : text ≡ given ++ left = sym (take-append-drop found.count text)
+      ∙ (ap (λ xs. xs ++ drop found.count text) (sym front) ∙ ap (λ xs. given ++ xs) (sym rest)) in (
         took input gave,
         (
           then,
@@ -741,20 +725,34 @@ module _ {H K : Type 0} (answers : H → Line → List Reply → Next → H → 
           request,
           wants,
           is one,
-          completes,
+          stops.1,
           tells,
           all,
-          found.end_is ∙ ap (λ k. start + k) (sym long),
+          f.place ∙ ap (λ k. start + k) (sym long),
         ),
         subst (λ rs. Says out rs said) (sym (append-nil gave)) says,
         sound_by now then left request,
-        omega (arith, left_by then left, ap length all, length-append given left, long, low),
+        omega (arith, left_by then left, ap length all, length-append given left, long, stops.0),
+      )
+    where
+      go : length given ≡ found.count → (is_last : Bool)
+          → StopsBy what (window_at ended (record buffer { held = text })) found.count is_last
+          → MayBeLast what is_last → (0 < found.count) × Completes now what given left
+      go long false ends last = (
+        ends_some endings asked what text found.count wants asks ends,
+        inl (subst (EndsAt what given) (sym long)
+            (subst (λ xs. EndsAt what xs found.count) (sym front)
+            (ends_front text found.count found.count (omega arith) what ends))),
+      )
+      go long true ends last = (
+        omega (arith, ends.0, some_length text (some ends.1)),
+        inr (ap supply_at ends.1, none_left text left found.count ends.0 rest, last),
       )
 
   pub turn_faults : (asked : Next) (what : Wanted) (error : LineError) (gave : List Reply)
       (then : Next) (after : Awaited) (buffer : WindowState) → buffer.held ≡ text
       → (ended ≡ true → text ≢ []) → buffer.size ≡ size → Wants endings asked what
-      → Looks ended what start buffer (Err error)
+      → Looks what start (window_at ended buffer) (Err error)
       → Says out gave said → refuses handler error gave then last → IsRequest then
       → GoesTo asked error then after
       → TurnOutcome answers refuses endings size now (place_at (Input asked) handler start text) out
@@ -784,8 +782,8 @@ module _ {H K : Type 0} (answers : H → Line → List Reply → Next → H → 
         ),
         subst (λ rs. Says out rs said) (sym (append-nil gave)) says,
         elim goes [
-          | inl e ↦ subst (λ a. IsSound now a text) (sym e.0) (sound_line now then text request)
-          | inr e ↦ subst (λ a. IsSound now a text) (sym e.0) (sound_fault now error text)
+          | inl e ↦ subst (λ a. IsSound now a text) (sym e.0) request
+          | inr e ↦ subst (λ a. IsSound now a text) (sym e.0) tt
         ],
         elim goes [
           | inl e ↦ subst (λ a. left_of a text < left_of (Input asked) text) (sym e.0) (omega arith)
@@ -804,7 +802,7 @@ module _ {H K : Type 0} (answers : H → Line → List Reply → Next → H → 
     skipped [],
     (stop.EndOfInput, refl, (refl, ended, none), refl),
     Says-nil out,
-    sound_end now text ended none,
+    (ended, none),
     omega arith,
   )
 
@@ -817,8 +815,7 @@ module _ {H K : Type 0} (answers : H → Line → List Reply → Next → H → 
   turn_lacks asked n gave then is asks ended none says tells request =
       let some : IsRequest (next.Part n) = subst (λ a. IsRequested (Input a)) is asks in
       let error = fault.Incomplete 0 in
-      subst (λ a. TurnOutcome answers refuses endings size now (place_at (Input a) handler start
-      text)
+      subst (λ a. TurnOutcome answers refuses endings size now (place_at (Input a) handler start text)
       out true (place_at (Nothing (stop.Reader error)) last start text) said) (sym is) (
       let cut : Rejects (wanted.Part n) start size text (is_ended now) error = (
         sym (ap length none),
@@ -848,7 +845,7 @@ module _ {H K : Type 0} (answers : H → Line → List Reply → Next → H → 
           refl,
         ),
         subst (λ rs. Says out rs said) (sym (append-nil gave)) says,
-        sound_fault now error text,
+        tt,
         omega arith,
       ))
 
@@ -868,10 +865,10 @@ module _ {H K : Type 0} (answers : H → Line → List Reply → Next → H → 
         elim t.4 [
           | inl e ↦ subst (λ a. IsSound now a left) (sym e.0) (sound_by now then left asks)
           | inr others ↦ elim others [
-            | inl e ↦ subst (λ a. IsSound now a left) (sym e.0) (sound_line now then left asks)
+            | inl e ↦ subst (λ a. IsSound now a left) (sym e.0) asks
             | inr others ↦ elim others [
-              | inl e ↦ subst (λ a. IsSound now a left) (sym e.0) (sound_end now left e.1 e.3)
-              | inr e ↦ subst (λ a. IsSound now a left) (sym e.1) (sound_fault now e.0 left)
+              | inl e ↦ subst (λ a. IsSound now a left) (sym e.0) (e.1, e.3)
+              | inr e ↦ subst (λ a. IsSound now a left) (sym e.1) tt
             ]
           ]
         ],
@@ -896,164 +893,6 @@ module _ {H K : Type 0} (answers : H → Line → List Reply → Next → H → 
     t.3,
     subst (λ a. Lacks endings size a start text) (sym is) (t.4, t.5, t.6),
   )
-
--- ---- what a look into a buffer finds
-
--- a source that is at its end
-abbrev source_done : SourceState
-source_done = record { rest = Some []; failures = 0; history = None; aside = no_aside }
-
-module _ (ended : Bool) (what : Wanted) (start : ℕ) (buffer : WindowState) where
-  -- a part does not fit
-  pub unfit_looks : (error : LineError) → IsUnfit what start buffer.size error
-      → Looks ended what start buffer (Err error)
-  unfit_looks error unfit = go what error unfit
-    where
-      go : (what : Wanted) (error : LineError) → IsUnfit what start buffer.size error
-          → Looks ended what start buffer (Err error)
-      go (wanted.Part n) (fault.TooLong place) unfit =
-          (unfit, λ is. let e : fault.TooLong place ≡ fault.Read = is in cc)
-      go (wanted.Part n) fault.TooFar unfit =
-          (unfit, λ is. let e : fault.TooFar ≡ fault.Read = is in cc)
-      go (wanted.Part n) (fault.NotAscii place) unfit = absurd unfit
-      go (wanted.Part n) (fault.LoneBreak place) unfit = absurd unfit
-      go (wanted.Part n) (fault.Incomplete count) unfit = absurd unfit
-      go (wanted.Part n) fault.Read unfit = absurd unfit
-      go (wanted.Line endings) error unfit = absurd unfit
-      go (wanted.Bytes endings) error unfit = absurd unfit
-
-  pub err_looks : (result : Result (Option (ℕ × ℕ)) LineError) (error : LineError)
-      → IsErrAnd result (λ e. e ≡ error) → Looks ended what start buffer (Err error)
-      → Looks ended what start buffer result
-  err_looks (Ok found) error is why = absurd is
-  err_looks (Err e) error is why =
-      subst (λ e. Looks ended what start buffer (Err e)) (sym is) why
-
-  module _ (n : ℕ) (is_last : Bool) (finds : FindsEnd what (window_at ended buffer) n is_last)
-      (last : is_last ≡ true → ended ≡ true) where
-    pub end_looks : (error : LineError)
-        → IsEndOf what start (take n buffer.held) is_last (Err error)
-        → Looks ended what start buffer (Err error)
-    end_looks error ends = (
-      (end_rejects what start (window_at ended buffer) n is_last finds 0 error ends).0,
-      λ is. subst (λ e. IsEndOf what start (take n buffer.held) is_last (Err e)) is ends,
-    )
-
-    stops_by : (last' : Bool) → is_last ≡ last' → StopsBy what (window_at ended buffer) n last'
-        → MayBeLast what last'
-        → EndsAt what (take n buffer.held) n
-        ⊎ ((ended ≡ true) × (n ≡ length buffer.held) × MayBeLast what true)
-    stops_by false is stops may = inl (ends_front buffer.held n n (omega arith) what stops)
-    stops_by true is stops may = inr (last is, stops.0, may)
-
-    pub look_ends : (end : ℕ) → IsEndOf what start (take n buffer.held) is_last (Ok end)
-        → Finds ended what start buffer n end
-    look_ends end ends =
-        let long : length (take n buffer.held) ≡ n = length-take-le n buffer.held finds.within in
-        let window = window_at ended buffer in
-        let t = takes_off what start window window
-        (record window { given = take n buffer.held; held = drop n buffer.held }) source_done
-        source_done n is_last finds
-        (Gathers-nil (MustRead what start buffer.size) buffer.held ended source_done
-        (λ _. refl)) refl refl refl refl refl end ends in
-        record {
-          within = finds.within;
-          may = finds.may;
-          one = t.one;
-          end_is = t.place_is ∙ ap (λ k. start + k) long;
-          stops = stops_by is_last refl finds.stops ends.2;
-        }
-
-  module _ (part : List ℕ) (usable : IsUsable what buffer part) where
-    -- what was searched is among the bytes that may be in what is wanted
-    pub looked_for : (searched : ℕ) → IsLookedFor what start buffer searched
-        → (searched ≤ length part) × IsSearched what part searched
-    looked_for searched looked = elim looked [
-      | inl none ↦ (
-        omega (arith, none),
-        subst (IsSearched what part) (sym none)
-            (searched_none what part),
-      )
-      | inr (low, must) ↦
-          let front = take searched buffer.held in
-          let long = length-take-le searched buffer.held low in
-          let fits : searched ≤ buffer.size = omega (arith, long, fits_of what front must) in
-          let within = usable_least what buffer part usable searched low fits
-          (may_of what front must) in (
-            within,
-            subst (λ xs. IsSearched what xs searched) (sym usable.front)
-                (searched_front buffer.held (length part) searched within what
-                (whole_of what (subst (IsSearched what front) long (free_of what front must)))),
-          )
-    ]
-      where
-        fits_of : (w : Wanted) (text : List ℕ) → MustRead w start buffer.size text
-            → length text ≤ buffer.size
-        fits_of (wanted.Line endings) text must = must.0
-        fits_of (wanted.Bytes endings) text must = must.0
-        fits_of (wanted.Part n) text must = omega (arith, must.0, must.2)
-
-        may_of : (w : Wanted) (text : List ℕ) → MustRead w start buffer.size text → MayHave w text
-        may_of (wanted.Line endings) text must = must.1
-        may_of (wanted.Bytes endings) text must = tt
-        may_of (wanted.Part n) text must = must.1
-
-        free_of : (w : Wanted) (text : List ℕ) → MustRead w start buffer.size text
-            → IsSearched w text (length text)
-        free_of (wanted.Line endings) text must = must.2
-        free_of (wanted.Bytes endings) text must = must.1
-        free_of (wanted.Part n) text must = tt
-
-        whole_of : (w : Wanted) → IsSearched w (take searched buffer.held) searched
-            → IsSearched w buffer.held searched
-        whole_of (wanted.Line endings) free =
-            lacks_whole buffer.held searched searched (omega arith) (wanted.Line endings) free
-        whole_of (wanted.Bytes endings) free =
-            lacks_whole buffer.held searched searched (omega arith) (wanted.Bytes endings) free
-        whole_of (wanted.Part n) free = tt
-
-    pub find_ends : (n : ℕ) → (n ≤ length part) × EndsAt what part n
-        → FindsEnd what (window_at ended buffer) n false
-    find_ends n found = record {
-      within = omega (arith, found.0, usable.within);
-      fits = omega (arith, found.0, usable.fits);
-      may = subst (MayHave what)
-          (ap (take n) usable.front ∙ take-take n (length part) buffer.held found.0)
-          (may_front what part n usable.may);
-      stops = ends_whole buffer.held (length part) n found.0 what
-          (subst (λ text. EndsAt what text n) usable.front found.1);
-    }
-
-    pub refusal_looks : LacksUpTo what part (length part) → length part < length buffer.held
-        → (error : LineError) → IsRefusal start (length part) buffer.size error
-        → Looks ended what start buffer (Err error)
-    refusal_looks lacks less error refusal = (
-      rejects what start buffer.size buffer part usable refl lacks less ended error refusal,
-      λ is. subst (IsRefusal start (length part) buffer.size) is refusal,
-    )
-
-    -- more bytes have to come
-    pub look_waits : ended ≡ false → MayFit what start buffer.size
-        → length buffer.held ≤ length part → LacksUpTo what part (length part)
-        → Looks ended what start buffer (Ok None)
-    look_waits is fit long lacks =
-        (is, must_read what start buffer.size buffer part usable refl lacks fit long)
-
-    -- the bytes that are left are all that there will be
-    pub find_last : ended ≡ true → length buffer.held ≤ length part
-        → LacksUpTo what part (length part)
-        → FindsEnd what (window_at ended buffer) (length part) true
-    find_last is long lacks = record {
-      within = usable.within;
-      fits = usable.fits;
-      may = subst (MayHave what) usable.front usable.may;
-      stops = (
-        omega (arith, long, usable.within),
-        is,
-        lacks_whole buffer.held (length part) (length part) (omega arith) what
-            (subst (λ xs. LacksUpTo what xs (length part)) usable.front lacks),
-      );
-    }
 
 pub rests_lacks : (endings : Endings) (size : ℕ) (awaited : Awaited) (start : ℕ) (held : List ℕ)
     → Rests endings size awaited start held → ¬ (IsOver awaited)

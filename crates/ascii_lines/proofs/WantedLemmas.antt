@@ -50,6 +50,12 @@ module _ (held : List ℕ) (m n : ℕ) (low : n ≤ m) where
   lacks_whole (Bytes endings) free = FreeUpTo-same endings (take m held) held n at_front free
   lacks_whole (Part count) low = low
 
+  pub searched_whole : (wanted : Wanted) → IsSearched wanted (take m held) n
+      → IsSearched wanted held n
+  searched_whole (Line endings) free = lacks_whole (Line endings) free
+  searched_whole (Bytes endings) free = lacks_whole (Bytes endings) free
+  searched_whole (Part count) free = tt
+
   pub ends_whole : (wanted : Wanted) → EndsAt wanted (take m held) n → EndsAt wanted held n
   ends_whole (Line endings) ends = IsFirstStop-same endings (take m held) held n at_front ends
   ends_whole (Bytes endings) ends = IsFirstStop-same endings (take m held) held n at_front ends
@@ -61,22 +67,10 @@ searched_lacks (Line endings) text n lacks = lacks
 searched_lacks (Bytes endings) text n lacks = lacks
 searched_lacks (Part count) text n lacks = tt
 
-pub searched_more : (wanted : Wanted) (text more : List ℕ) (n : ℕ) → n ≤ length text
-    → IsSearched wanted text n → IsSearched wanted (text ++ more) n
-searched_more (Line endings) text more n within free = FreeUpTo-more endings text more n within free
-searched_more
-    (Bytes endings) text more n within free = FreeUpTo-more endings text more n within free
-searched_more (Part count) text more n within free = tt
-
 pub searched_none : (wanted : Wanted) (text : List ℕ) → IsSearched wanted text 0
 searched_none (Line endings) text = λ k low. absurd (omega (arith, low))
 searched_none (Bytes endings) text = λ k low. absurd (omega (arith, low))
 searched_none (Part count) text = tt
-
-pub may_none : (wanted : Wanted) → MayHave wanted []
-may_none (Line endings) = IsAscii-nil
-may_none (Bytes endings) = tt
-may_none (Part count) = IsAscii-nil
 
 -- ---- the bytes that may be in what is wanted
 
@@ -112,6 +106,15 @@ module _ (wanted : Wanted) (buffer : WindowState) (part : List ℕ)
   all_usable long = usable.front ∙ take_all (length part) buffer.held long
 
 -- ---- why it is not given
+
+-- what a source has to be read for is not among the bytes, which fit
+pub must_reads : (wanted : Wanted) (start size : ℕ) (held : List ℕ)
+    → MustRead wanted start size held
+    → (length held ≤ size) × MayHave wanted held × LacksUpTo wanted held (length held)
+must_reads (Line endings) start size held must = must
+must_reads (Bytes endings) start size held must = (must.0, tt, must.1)
+must_reads (Part count) start size held must =
+    (omega (arith, must.0, must.2), must.1, must.0)
 
 must : (wanted : Wanted) (start size : ℕ) (held : List ℕ) → MayFit wanted start size
     → length held ≤ size → MayHave wanted held → LacksUpTo wanted held (length held)
@@ -199,13 +202,3 @@ module _ (wanted : Wanted) (start size : ℕ) (buffer : WindowState) (part : Lis
   rejects less is_at_end (error.LoneBreak place) refusal = absurd refusal
   rejects less is_at_end (error.Incomplete count) refusal = absurd refusal
   rejects less is_at_end error.Read refusal = absurd refusal
-
--- no read has failed then
-pub refusal_counts : (n start i size : ℕ) (error : LineError) → IsRefusal start i size error
-    → failures_after n error ≡ n
-refusal_counts n start i size (error.TooLong place) refusal = refl
-refusal_counts n start i size (error.NotAscii place) refusal = refl
-refusal_counts n start i size error.TooFar refusal = refl
-refusal_counts n start i size (error.LoneBreak place) refusal = absurd refusal
-refusal_counts n start i size (error.Incomplete count) refusal = absurd refusal
-refusal_counts n start i size error.Read refusal = absurd refusal

@@ -1,9 +1,10 @@
 -- A conversation as its handler sees it: what it was given, and what it replied, in order.
-use Rattle.std.specs.Prelude.{◌≡◌, ℕ, List, [], ◌∷◌, ◌++◌, None, Some}
+use Rattle.std.specs.Prelude.{◌≡◌, ℕ, List, [], ◌∷◌, ◌++◌, None, Some, ⊤}
 use Rattle.std.specs.declared.option.Option.{Option}
-use Rattle.ascii.specs.Lines.{Line}
+use Rattle.ascii.specs.Lines.{Line, line_text}
 use Rattle.ascii_lines.specs.Replies.{Reply, Step, rejected, skipped, took}
 use Rattle.ascii_lines.specs.declared.line_reader.LineError.{LineError}
+use Rattle.ascii_lines.specs.declared.line_reader.LineError.TheVariants.{Incomplete}
 use Rattle.ascii_lines.specs.declared.serving.Next.{Next}
 use Rattle.ascii_lines.specs.declared.serving.Next.TheVariants as next
 
@@ -27,6 +28,24 @@ said_in [] = []
 said_in (took input replies ∷ steps) = replies ++ said_in steps
 said_in (rejected error replies ∷ steps) = replies ++ said_in steps
 said_in (skipped bytes ∷ steps) = said_in steps
+
+-- the bytes of the input that a step took
+abbrev pub step_bytes : Step → List ℕ
+step_bytes (took input replies) = line_text input
+step_bytes (rejected error replies) = []
+step_bytes (skipped bytes) = bytes
+
+-- the bytes of the input that the steps took, laid end to end
+abbrev pub bytes_of : List Step → List ℕ
+bytes_of [] = []
+bytes_of (step ∷ steps) = step_bytes step ++ bytes_of steps
+
+-- the steps take no byte, and the only error in them is that of a part of which no byte came
+abbrev pub TakesNothing : List Step → Type 0
+TakesNothing [] = ⊤
+TakesNothing (took input replies ∷ steps) = ⊥
+TakesNothing (rejected error replies ∷ steps) = (error ≡ Incomplete 0) × TakesNothing steps
+TakesNothing (skipped bytes ∷ steps) = (bytes ≡ []) × TakesNothing steps
 
 module _ {H : Type 0} (answers : H → Line → List Reply → Next → H → Type 0)
     (refuses : H → LineError → List Reply → Next → H → Type 0) where

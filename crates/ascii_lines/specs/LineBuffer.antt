@@ -7,6 +7,7 @@ use Rattle.ascii.specs.Bytes.{FirstOther}
 use Rattle.ascii_devices.specs.Devices.{Grows, read_of}
 use Rattle.ascii_devices.specs.States.{SourceState}
 use Rattle.ascii_devices.specs.declared.DeviceFault.{DeviceFault}
+use Rattle.ascii_lines.specs.Failures.{one_more}
 use Rattle.ascii_lines.specs.Wanted.{MayHave}
 use Rattle.ascii_lines.specs.declared.wanted.Wanted.{Wanted}
 use Rattle.ascii_lines.specs.declared.wanted.Wanted.TheVariants.{Bytes}
@@ -102,5 +103,5 @@ pub record Fills (old new : WindowState) (source now : SourceState)
       (λ _. (read : List ℕ) × ReadsOnce source now read × (new.held ≡ old.held ++ read)
       × (new.is_at_end ≡ (length read == 0)))
       (λ _. (FailsOnce source now ⊎ (now ≡ source)) × (new.held ≡ old.held)
-      × (new.is_at_end ≡ old.is_at_end))
+      × (new.is_at_end ≡ old.is_at_end) × (now.failures ≡ one_more source.failures))
   pub size : new.size ≡ old.size

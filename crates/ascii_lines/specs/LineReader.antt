@@ -1,5 +1,5 @@
 -- The state of a line reader, and what its calls return and leave.
-use Rattle.std.specs.Prelude.{MatchResult, ◌<◌, ◌^◌, ◌≡◌, ◌≢◌, ◌⊎◌, ℕ, ◌+◌, ◌≤◌, Bool, true}
+use Rattle.std.specs.Prelude.{◌<◌, ◌^◌, ◌≡◌, ◌≢◌, ◌⊎◌, ℕ, ◌+◌, ◌≤◌, Bool, true}
 use Rattle.std.specs.Prelude.{false, List, [], ◌∷◌}
 use Rattle.std.specs.Prelude.{◌++◌, nat_lt, length, take, Ok, Err, None}
 use Rattle.std.specs.Prelude.{Some, ⊤}
@@ -19,14 +19,15 @@ use Rattle.ascii_devices.specs.States.{Gives, SourceState, of_state, source_stat
 use Rattle.ascii_devices.specs.declared.Source.{Ghosts}
 use Rattle.ascii_lines.specs.LineBuffer.{WindowState}
 use Rattle.ascii_lines.specs.Wanted.{Delivers, EndsAt, IsOne, LacksUpTo, MayHave}
-use Rattle.ascii_lines.specs.Wanted.{Gathers, MayBeLast, MustRead, Refuses}
+use Rattle.ascii_lines.specs.Wanted.{MayBeLast, MustRead, Refuses, Rejects}
 use Rattle.ascii_lines.specs.declared.line_reader.LineError.{LineError}
-use Rattle.ascii_lines.specs.declared.line_reader.LineError.TheVariants.{Incomplete}
+use Rattle.ascii_lines.specs.declared.line_reader.LineError.TheVariants.{Incomplete, Read}
 use Rattle.ascii_lines.specs.declared.line_reader.ReadBytes.{ReadBytes}
 use Rattle.ascii_lines.specs.declared.line_reader.ReadLine.{ReadLine}
 use Rattle.ascii_lines.specs.declared.line_reader.ReadPart.{ReadPart}
 use Rattle.ascii_lines.specs.declared.line_reader.Stage.{Stage}
 use Rattle.ascii_lines.specs.declared.line_reader.Stage.TheVariants.{Open, Ended, Refused}
+use Rattle.ascii_lines.specs.declared.wanted.Found.{Found}
 use Rattle.ascii_lines.specs.declared.wanted.Wanted.{Wanted}
 use Rattle.ascii_lines.specs.declared.wanted.Wanted.TheVariants as wanted
 
@@ -316,20 +317,32 @@ pub record FindsEnd (wanted : Wanted) (buffer : WindowState) (n : ℕ) (is_last 
     pub may : MayHave wanted (take n buffer.held)
     pub stops : StopsBy wanted buffer n is_last
 
--- a search has stopped: what was read until then, and where
-pub record Stops (wanted : Wanted) (start : ℕ) (old new : WindowState) (source now : SourceState)
-    (found : ℕ × Bool) : Type 0 where
-  pub gathers : Gathers (MustRead wanted start old.size) old.held old.is_at_end new.is_at_end
-      source now new.held
-  pub found_is : FindsEnd wanted new found.0 found.1
-  pub failures : now.failures ≡ source.failures
+-- what is wanted ends in a buffer at `found`, or its bytes are all that were left, and is without
+-- fault
+pub record Finds (wanted : Wanted) (start : ℕ) (buffer : WindowState) (found : Found) : Type 0
+  where
+    pub ends : FindsEnd wanted buffer found.count found.is_last
+    pub place : found.end ≡ start + found.count
+    pub one : take found.count buffer.held ≢ [] → IsOne wanted (take found.count buffer.held)
+    pub last : MayBeLast wanted found.is_last
 
--- what a search for what is wanted does: it stops; or there is an error in its place
-pub record Seeks (wanted : Wanted) (start : ℕ) (old new : WindowState) (source now : SourceState)
-    (result : Result (ℕ × Bool) LineError) : Type 0 where
-  pub outcome : MatchResult result (Stops wanted start old new source now)
-      (Refuses wanted start old.size old.held old.is_at_end new.is_at_end source now new.held)
-  pub size : new.size ≡ old.size
+-- what looking into a buffer finds: nothing before more bytes come; where what is wanted is; or a
+-- fault, which is not that of a read
+abbrev pub Looks : Wanted → ℕ → WindowState → Result (Option Found) LineError → Type 0
+Looks wanted start buffer (Ok None) =
+    (buffer.is_at_end ≡ false) × MustRead wanted start buffer.size buffer.held
+Looks wanted start buffer (Ok (Some found)) = Finds wanted start buffer found
+Looks wanted start buffer (Err error) =
+    Rejects wanted start buffer.size buffer.held buffer.is_at_end error × (error ≢ Read)
+
+-- the first `searched` bytes of a buffer were searched for what is wanted, or none were
+abbrev pub IsLookedFor : Wanted → ℕ → WindowState → ℕ → Type 0
+IsLookedFor wanted start buffer searched = (searched ≡ 0) ⊎ ((searched ≤ length buffer.held)
+    × MustRead wanted start buffer.size (take searched buffer.held))
+
+-- a buffer, with whether the input has ended
+abbrev pub window_at : Bool → WindowState → WindowState
+window_at is_ended buffer = record buffer { is_at_end = is_ended }
 
 -- the outcome of taking what is wanted, of which `lent` are the bytes. `true`: they are it, and the
 -- reader is open or has ended. `false`: there are no more lines, or the part has no bytes

@@ -254,10 +254,10 @@ left_of (Nothing why) text = 0
 
 -- what a step leaves: something that was asked for; and it has not stopped since the replies could
 -- not be written, nor at the end of the input before all bytes were used
-pub record IsSound (now : Supply) (awaited : Awaited) (text : List ℕ) : Type 0 where
-  pub request : IsRequested awaited
-  pub used : awaited ≡ Nothing stop.EndOfInput → (now ≡ supply.Ended) × (text ≡ [])
-  pub written : awaited ≢ Nothing stop.Writer
+abbrev pub IsSound : Supply → Awaited → List ℕ → Type 0
+IsSound now (Nothing stop.EndOfInput) text = (now ≡ supply.Ended) × (text ≡ [])
+IsSound now (Nothing stop.Writer) text = ⊥
+IsSound now awaited text = IsRequested awaited
 
 module _ {H : Type 0} (answers : H → Line → List Reply → Next → H → Type 0)
     (refuses : H → LineError → List Reply → Next → H → Type 0) (endings : Endings) (size : ℕ)
@@ -282,36 +282,6 @@ module _ {H K : Type 0} (answers : H → Line → List Reply → Next → H → 
 abbrev pub IsSearchedFor : Endings → ℕ → Awaited → ℕ → List ℕ → ℕ → Type 0
 IsSearchedFor endings size awaited start text searched = (searched ≡ 0)
     ⊎ ((searched ≤ length text) × Lacks endings size awaited start (take searched text))
-
--- the first `searched` bytes of a buffer were searched for what is wanted, or none were
-abbrev pub IsLookedFor : Wanted → ℕ → WindowState → ℕ → Type 0
-IsLookedFor what start buffer searched = (searched ≡ 0) ⊎ ((searched ≤ length buffer.held)
-    × MustRead what start buffer.size (take searched buffer.held))
-
--- a buffer, with whether the input has ended
-abbrev pub window_at : Bool → WindowState → WindowState
-window_at is_ended buffer = record buffer { is_at_end = is_ended }
-
--- what is wanted is the first `n` bytes that a buffer holds, and ends at the position `end`; or
--- they are the last of the input
-pub record Finds (is_ended : Bool) (what : Wanted) (start : ℕ) (buffer : WindowState) (n end : ℕ)
-    : Type 0 where
-  pub within : n ≤ length buffer.held
-  pub may : MayHave what (take n buffer.held)
-  pub one : take n buffer.held ≢ [] → IsOne what (take n buffer.held)
-  pub end_is : end ≡ start + n
-  pub stops : EndsAt what (take n buffer.held) n
-      ⊎ ((is_ended ≡ true) × (n ≡ length buffer.held) × MayBeLast what true)
-
--- what looking into a buffer finds: nothing before more bytes come; or the number of bytes and the
--- position after them; or a fault, which is not that of a read
-abbrev pub Looks : Bool → Wanted → ℕ → WindowState → Result (Option (ℕ × ℕ)) LineError → Type 0
-Looks is_ended what start buffer (Ok None) =
-    (is_ended ≡ false) × MustRead what start buffer.size buffer.held
-Looks is_ended what start buffer (Ok (Some found)) =
-    Finds is_ended what start buffer found.0 found.1
-Looks is_ended what start buffer (Err error) =
-    Rejects what start buffer.size buffer.held is_ended error × (error ≢ Read)
 
 -- as many of `bytes` as there was room for, which are `n`, are held after those that were
 pub record PutsBehind (old new : WindowState) (bytes : List ℕ) (n : ℕ) : Type 0 where

@@ -17,15 +17,15 @@
 ghost use Rattle.std.specs.Prelude.{◌≡◌, ◌≢◌, ◌⊎◌, ◌<◌, ◌≤◌, ◌++◌, ◌↔◌, [], IfOk, IsTrue};
 ghost use Rattle.std.specs.Prelude.{length, take, true};
 ghost use Rattle.ascii.specs.Endings.{any_text};
-ghost use Rattle.ascii_lines.specs.LineReader.{FindsEnd};
-ghost use Rattle.ascii_lines.specs.Turns.{GoesTo, IsLookedFor, IsOver, Looks, SkipsIn};
-ghost use Rattle.ascii_lines.specs.Turns.{awaited_by, fresh_talk, supply_at, window_at};
+ghost use Rattle.ascii_lines.specs.LineReader.{Finds, IsLookedFor, window_at};
+ghost use Rattle.ascii_lines.specs.Turns.{GoesTo, IsOver, SkipsIn, awaited_by, fresh_talk};
+ghost use Rattle.ascii_lines.specs.Turns.{supply_at};
 
 use crate::line_buffer::LineBuffer;
 use crate::line_reader::LineError;
 use crate::serving::{Handler, Next, Replies, Stop, input_at};
 use crate::skipping::{PassEnd, is_final, part_of_line, whole_endings};
-use crate::wanted::{Wanted, end_of, find, may_fit, refusal};
+use crate::wanted::{Found, Wanted, look};
 use ascii::iter::Endings;
 use ascii_devices::{Channel, Sink};
 use std::alloc::{AllocError, Allocator, Global};
@@ -284,7 +284,7 @@ struct Dialogue<A: Allocator> {
 
 impl<A: Allocator> Dialogue<A> {
     ghost use Rattle.ascii_lines.specs.Serve.{IsUnread};
-    ghost use Rattle.ascii_lines.specs.Turns.{Converses, Finds, IsRequested, IsSearchedFor, Rests};
+    ghost use Rattle.ascii_lines.specs.Turns.{Converses, IsRequested, IsSearchedFor, Rests};
     ghost use Rattle.ascii_lines.specs.Turns.{SkipTurn, TurnOutcome, Wants, place_at, supply_at};
 
     /// Whether nothing is awaited.
@@ -468,9 +468,7 @@ impl<A: Allocator> Dialogue<A> {
         ensures at_end { self.new.buffer.is_at_end ≡ self.old.buffer.is_at_end }
     {
         match look(&self.buffer, wanted, self.start, is_ended, searched) {
-            Ok(Some(found)) => self.hand(
-                handler, replies, asked, wanted, is_ended, found.0, found.1,
-            ),
+            Ok(Some(found)) => self.hand(handler, replies, asked, wanted, is_ended, found),
             Ok(None) => false,
             Err(error) => {
                 let next = handler.refuse(error, replies);
@@ -488,13 +486,12 @@ impl<A: Allocator> Dialogue<A> {
         asked: Next,
         wanted: Wanted,
         is_ended: bool,
-        n: usize,
-        end: u64,
+        found: Found,
     ) -> bool
         requires wanted { Wants self.old.endings asked wanted }
         requires request { IsRequested (Awaited.Input asked) }
         requires some { is_ended ≡ true → self.old.buffer.held ≢ [] }
-        requires found { Finds is_ended wanted self.old.start self.old.buffer n end }
+        requires found { Finds wanted self.old.start (window_at is_ended self.old.buffer) found }
         ensures turn { TurnOutcome H.answers H.refuses self.old.endings self.old.buffer.size
             (supply_at is_ended)
             (place_at (Awaited.Input asked) handler.old self.old.start self.old.buffer.held)
@@ -506,8 +503,8 @@ impl<A: Allocator> Dialogue<A> {
         ensures at_end { self.new.buffer.is_at_end ≡ self.old.buffer.is_at_end }
     {
         let start = self.start;
-        self.buffer.take(n);
-        self.start = end;
+        self.buffer.take(found.count);
+        self.start = found.end;
         let input = input_at(wanted, start, self.buffer.line_bytes());
         let next = handler.answer(input.text, input.ending, replies);
         self.awaited = after_answer(next);
@@ -575,47 +572,4 @@ fn skip_in(
         None if n == 0 => None,
         None => Some((n, Awaited::LineEnd(next))),
     }
-}
-
-/// Looks for what is wanted among the bytes of a buffer, of which the first `searched` were searched. Returns the
-/// number of its bytes and the position after them, or `None` if more bytes have to come.
-fn look<A: Allocator>(
-    buffer: &LineBuffer<A>,
-    wanted: Wanted,
-    start: u64,
-    is_ended: bool,
-    searched: usize,
-) -> Result<Option<(usize, u64)>, LineError>
-    requires { IsLookedFor wanted start buffer.now searched }
-    ensures { Looks is_ended wanted start buffer.now result }
-{
-    may_fit(wanted, start, buffer.size())?;
-    let text = buffer.usable(wanted);
-    if let Some(n) = find(wanted, text, searched) {
-        return look_at(buffer, wanted, start, is_ended, n, false);
-    }
-    if text.len() < buffer.len() {
-        return Err(refusal(start, text.len(), buffer.size()));
-    }
-    if is_ended {
-        return look_at(buffer, wanted, start, is_ended, text.len(), true);
-    }
-    Ok(None)
-}
-
-/// The number of the first `n` bytes and the position after them, or why they are not what is wanted.
-fn look_at<A: Allocator>(
-    buffer: &LineBuffer<A>,
-    wanted: Wanted,
-    start: u64,
-    is_ended: bool,
-    n: usize,
-    is_last: bool,
-) -> Result<Option<(usize, u64)>, LineError>
-    requires found { FindsEnd wanted (window_at is_ended buffer.now) n is_last }
-    requires last { is_last ≡ true → is_ended ≡ true }
-    ensures { Looks is_ended wanted start buffer.now result }
-{
-    let end = end_of(wanted, start, buffer.front(n), is_last)?;
-    Ok(Some((n, end)))
 }

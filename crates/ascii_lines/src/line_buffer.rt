@@ -191,7 +191,7 @@ impl<A: Allocator> LineBuffer<A> {
     }
 
     /// Reads more bytes after those that it holds, by one call of the source.
-    pub(crate) fn refill<S: Source>(&mut self, source: &mut S) -> Result<(), DeviceFault>
+    fn refill<S: Source>(&mut self, source: &mut S) -> Result<(), DeviceFault>
         requires more { self.old.is_at_end ≡ false }
         requires room { length self.old.held < self.old.room }
         requires count { S.failures source.old < u64.MAX }

@@ -147,10 +147,7 @@ pub(crate) fn pass_line<S: Source, A: Allocator>(
             let n = buffer.len();
             return (pass(buffer, passed, n), PassEnd::Input);
         }
-        if source.failures() == u64::MAX {
-            return (passed, PassEnd::Failed);
-        }
-        let Ok(()) = buffer.refill(source) else {
+        let Ok(()) = buffer.fill(source) else {
             return (passed, PassEnd::Failed);
         };
     }

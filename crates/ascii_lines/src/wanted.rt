@@ -2,7 +2,7 @@
 
 ghost use Rattle.std.specs.Prelude.{◌≡◌, ◌≤◌, IfErr, IfOk, MatchOption, OnOk, length};
 ghost use Rattle.ascii_devices.specs.States.{source_state};
-ghost use Rattle.ascii_lines.specs.LineReader.{Seeks, TakesOff};
+ghost use Rattle.ascii_lines.specs.LineReader.{FindsEnd, IsLookedFor, Looks, TakesOff, window_at};
 ghost use Rattle.ascii_lines.specs.Wanted.{EndsAt, LacksUpTo, Refuses};
 ghost use Rattle.ascii_lines.specs.Wanted.{FindsFault, IsEndOf, IsRefusal, IsSearched, IsUnfit};
 ghost use Rattle.ascii_lines.specs.Wanted.{KnowsEnd, MayFit};
@@ -25,8 +25,19 @@ pub(crate) enum Wanted {
     Part(usize),
 }
 
-/// Takes what is wanted off the buffer, or all bytes if it is not among them. Returns the position
-/// after them, and whether the source has ended.
+/// Where what is wanted is in a buffer.
+#[derive(Clone, Copy)]
+pub(crate) struct Found {
+    /// The number of its bytes, which are the first.
+    pub(crate) count: usize,
+    /// The position after them.
+    pub(crate) end: u64,
+    /// Whether they are all that were left of the input, and what is wanted does not end in them.
+    pub(crate) is_last: bool,
+}
+
+/// Takes what is wanted off the buffer, or all bytes if it is not among them, and reads the source before if it has to.
+/// Returns the position after them, and whether the source has ended. Each byte is searched once.
 pub(crate) fn take_wanted<S: Source, A: Allocator>(
     buffer: &mut LineBuffer<A>,
     source: &mut S,
@@ -41,51 +52,71 @@ pub(crate) fn take_wanted<S: Source, A: Allocator>(
         (source_state S.Source source.new) buffer.new.held) }
     ensures size { buffer.new.size ≡ buffer.old.size }
 {
-    may_fit(wanted, start, buffer.size())?;
-    let (n, is_last) = seek(buffer, source, wanted, start)?;
-    let end = end_of(wanted, start, buffer.front(n), is_last)?;
-    buffer.take(n);
-    Ok((end, is_last))
-}
-
-/// Reads the source until what is wanted is in the buffer. Returns the number of its bytes, or of all if it
-/// is not among them, and whether the source has ended. Each byte is searched once.
-fn seek<S: Source, A: Allocator>(
-    buffer: &mut LineBuffer<A>,
-    source: &mut S,
-    wanted: Wanted,
-    start: u64,
-) -> Result<(usize, bool), LineError>
-    requires fits { MayFit wanted start buffer.old.size }
-    requires end { KnowsEnd buffer.old.is_at_end (S.rest source.old) }
-    ensures { Seeks wanted start buffer.old buffer.new (source_state S.Source source.old)
-        (source_state S.Source source.new) result }
-{
     let mut searched = 0;
     'fills: loop {
-        let text = buffer.usable(wanted);
-        if let Some(n) = find(wanted, text, searched) {
-            return Ok((n, false));
+        let is_ended = buffer.is_at_end();
+        if let Some(found) = look(buffer, wanted, start, is_ended, searched)? {
+            buffer.take(found.count);
+            return Ok((found.end, found.is_last));
         }
-        searched = text.len();
-        if searched < buffer.len() {
-            return Err(refusal(start, searched, buffer.size()));
-        }
-        if buffer.is_at_end() {
-            return Ok((searched, true));
-        }
-        if source.failures() == u64::MAX {
-            return Err(LineError::Read);
-        }
-        let Ok(()) = buffer.refill(source) else {
+        searched = buffer.len();
+        let Ok(()) = buffer.fill(source) else {
             return Err(LineError::Read);
         };
     }
 }
 
+/// Looks for what is wanted among the bytes of a buffer, of which the first `searched` were searched. Returns where it
+/// is, or `None` if more bytes have to come.
+#[inline]
+pub(crate) fn look<A: Allocator>(
+    buffer: &LineBuffer<A>,
+    wanted: Wanted,
+    start: u64,
+    is_ended: bool,
+    searched: usize,
+) -> Result<Option<Found>, LineError>
+    requires { IsLookedFor wanted start buffer.now searched }
+    ensures { Looks wanted start (window_at is_ended buffer.now) result }
+{
+    may_fit(wanted, start, buffer.size())?;
+    let text = buffer.usable(wanted);
+    if let Some(n) = find(wanted, text, searched) {
+        return look_at(buffer, wanted, start, is_ended, n, false);
+    }
+    if text.len() < buffer.len() {
+        return Err(refusal(start, text.len(), buffer.size()));
+    }
+    if is_ended {
+        return look_at(buffer, wanted, start, is_ended, text.len(), true);
+    }
+    Ok(None)
+}
+
+/// The place of the first `n` bytes, or why they are not what is wanted.
+#[inline]
+fn look_at<A: Allocator>(
+    buffer: &LineBuffer<A>,
+    wanted: Wanted,
+    start: u64,
+    is_ended: bool,
+    n: usize,
+    is_last: bool,
+) -> Result<Option<Found>, LineError>
+    requires { FindsEnd wanted (window_at is_ended buffer.now) n is_last }
+    ensures { Looks wanted start (window_at is_ended buffer.now) result }
+{
+    let end = end_of(wanted, start, buffer.front(n), is_last)?;
+    Ok(Some(Found {
+        count: n,
+        end,
+        is_last,
+    }))
+}
+
 /// The number of bytes up to the end of what is wanted. It is not among the first `searched`.
 #[inline]
-pub(crate) fn find(wanted: Wanted, text: &[u8], searched: usize) -> Option<usize>
+fn find(wanted: Wanted, text: &[u8], searched: usize) -> Option<usize>
     requires within { searched ≤ length text.now }
     requires searched { IsSearched wanted text.now searched }
     ensures { MatchOption result (LacksUpTo wanted text.now (length text.now))
@@ -100,7 +131,7 @@ pub(crate) fn find(wanted: Wanted, text: &[u8], searched: usize) -> Option<usize
 
 /// Rejects a part that does not fit in a buffer of this size, or ends too far.
 #[inline]
-pub(crate) fn may_fit(wanted: Wanted, start: u64, size: usize) -> Result<(), LineError>
+fn may_fit(wanted: Wanted, start: u64, size: usize) -> Result<(), LineError>
     ensures ok { OnOk result (MayFit wanted start size) }
     ensures err { IfErr result (IsUnfit wanted start size) }
 {
@@ -119,12 +150,7 @@ pub(crate) fn may_fit(wanted: Wanted, start: u64, size: usize) -> Result<(), Lin
 /// The position after the bytes of what is wanted, or why they are not given. If it is not among
 /// them, they are the last of the input.
 #[inline]
-pub(crate) fn end_of(
-    wanted: Wanted,
-    start: u64,
-    bytes: &[u8],
-    is_last: bool,
-) -> Result<u64, LineError>
+fn end_of(wanted: Wanted, start: u64, bytes: &[u8], is_last: bool) -> Result<u64, LineError>
     ensures { IsEndOf wanted start bytes.now is_last result }
 {
     if let Wanted::Part(_) = wanted
@@ -155,7 +181,7 @@ fn find_lone_break(wanted: Wanted, bytes: &[u8]) -> Option<usize>
 
 /// The error of bytes that do not fit in a buffer of this size, or of which the one at `place` is not
 /// ASCII.
-pub(crate) fn refusal(start: u64, place: usize, size: usize) -> LineError
+fn refusal(start: u64, place: usize, size: usize) -> LineError
     ensures { IsRefusal start place size result }
 {
     if place == size {

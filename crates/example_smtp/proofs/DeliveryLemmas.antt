@@ -10,7 +10,7 @@ use Rattle.std.specs.List.{AllZip, flat_map}
 use Rattle.std.specs.Prelude.{All, MatchResult, codes}
 use Rattle.ascii.specs.Case.{lower_image}
 use Rattle.ascii_lines.specs.Replies.{Step, line_reply, skipped, took}
-use Rattle.ascii_lines.proofs.ExchangeLemmas.{over_ends}
+use Rattle.ascii_lines.proofs.TurnsLemmas.{over_ends}
 use Rattle.ascii_lines.specs.Turns.{IsTurnAt, Place, Turns, awaited_by}
 use Rattle.ascii_lines.specs.declared.conversation.Supply.{Supply}
 use Rattle.ascii_lines.specs.declared.serving.Stop.TheVariants as stop

@@ -44,26 +44,9 @@ returns-in-Some-clause-serves g c =
     ∙ (sym c.stop.ensures ∙ c.in-Some.is))))
 
 pub returns-in-Some-clause-replies : goal.returns-in-Some-clause-replies
-returns-in-Some-clause-replies g c =
-    let mid = saying_of c.reads.lines in
-    let new = saying_of c.flush.new.self in
-    λ reply replier is. replied_to_all g.H.Handler.answers
+returns-in-Some-clause-replies g c = λ reply replier is. replied_to_all g.H.Handler.answers
     g.H.Handler.refuses reply replier c.args.lines.now.state c.flush.new.self.state
-    c.args.handler.now c.reads.handler c.in-Some.stop
-    (subst (λ (talk : TalkState). Serves g.H.Handler.answers g.H.Handler.refuses
-    c.args.lines.now.state c.args.handler.now c.in-Some.stop (record {
-      talk = talk;
-      output = c.flush.new.self.state.output;
-      ending = c.flush.new.self.state.ending;
-    })
-    c.reads.handler) (sym c.flush.ensures.talk)
-    (serves_all g.H.Handler.answers g.H.Handler.refuses c.args.lines.now.state
-    c.args.handler.now c.reads.lines.state c.reads.handler c.reads.invariant mid new refl refl
-    c.position-start.ensures.end c.in-Ok.field-0
-    (subst (λ r. SendsOut mid r new) c.in-Ok.is c.flush.ensures.sends) c.in-Some.stop
-    (stop_is c.reads.lines.state.talk.awaited c.in-Some.stop
-    (sym (ap (λ (t : TalkState). stop_of t.awaited) c.flush.ensures.talk)
-    ∙ (sym c.stop.ensures ∙ c.in-Some.is))))) is
+    c.args.handler.now c.reads.handler c.in-Some.stop (returns-in-Some-clause-serves g c) is
 
 pub reads-smaller : goal.reads-smaller
 reads-smaller g c =

@@ -1,8 +1,8 @@
 use Rattle.ascii_devices.specs.States.{source_state}
-use Rattle.ascii_lines.proofs.SkippingLemmas.{pass_ends, pass_failed, pass_fails, passed_more}
-use Rattle.ascii_lines.proofs.SkippingLemmas.{passed_none, passes_line, passes_on}
+use Rattle.ascii_lines.proofs.SkippingLemmas.{pass_ends, pass_failed, passed_more, passed_none}
+use Rattle.ascii_lines.proofs.SkippingLemmas.{passes_line, passes_on}
 use Rattle.ascii_lines.proofs.skipping.pass_line.Goals as goal
-use Rattle.std.proofs.Common.{arith, refl, sym, ◌∙◌}
+use Rattle.std.proofs.Common.{inr, sym, ◌∙◌}
 
 pub fills-init : goal.fills-init
 fills-init g c = passed_none c.args.endings c.args.limit c.args.buffer.now
@@ -13,17 +13,6 @@ returns-in-Some g c = passes_line _ c.requires.plain _ _ _ _ _ _ _ _ _ c.fills.i
     c.front.ensures c.len.ensures c.part_of_line-n.ensures.within c.pass-passed.ensures _ _
     c.in-Some.is c.part_of_line-n.ensures.part
 
-pub returns-then-failures-eq18446744073709551615 :
-    goal.returns-then-failures-eq18446744073709551615
-returns-then-failures-eq18446744073709551615 g c =
-    let b = source_state g.S.Source c.fills.source in
-    let all = passes_on _ c.requires.plain _ _ _ _ _ _ _ _ _ c.fills.invariant _ _ c.front.ensures
-    c.len.ensures c.part_of_line-n.ensures.within c.pass-passed.ensures _ c.in_default.is
-    c.part_of_line-n.ensures.part in
-    pass_fails _ _ _ c.pass-passed.new.buffer c.pass-passed.new.buffer _ b b _ all
-    all.so_far.gathers
-    (omega (arith, c.failures.ensures, c.if-failures-eq18446744073709551615.true)) refl refl
-
 pub returns-then-is_at_end : goal.returns-then-is_at_end
 returns-then-is_at_end g c = pass_ends _ _ _ c.pass-passed.new.buffer c.pass.new.buffer _
     (source_state g.S.Source c.fills.source) _ _
@@ -32,29 +21,28 @@ returns-then-is_at_end g c = pass_ends _ _ _ c.pass-passed.new.buffer c.pass.new
     c.part_of_line-n.ensures.part) (sym c.is_at_end.ensures ∙ c.if-is_at_end.true) _
     c.len-n.ensures c.pass.ensures
 
-pub returns-in_default-refill : goal.returns-in_default-refill
-returns-in_default-refill g c =
+pub fill-requires-clause-room : goal.fill-requires-clause-room
+fill-requires-clause-room g c = inr (passes_on _ c.requires.plain _ _ _ _ _ _ _ _ _
+    c.fills.invariant _ _ c.front.ensures c.len.ensures c.part_of_line-n.ensures.within
+    c.pass-passed.ensures _ c.in_default.is c.part_of_line-n.ensures.part).one
+
+pub returns-in_default-fill : goal.returns-in_default-fill
+returns-in_default-fill g c =
     let b = source_state g.S.Source c.fills.source in
-    let now = source_state g.S.Source c.refill.new.source in
-    let fails = c.in_default-refill.ensures.outcome in
-    pass_failed _ _ _ c.pass-passed.new.buffer c.refill.new.self _ b now _
+    let now = source_state g.S.Source c.fill.new.source in
+    let fails = c.in_default-fill.ensures.outcome in
+    pass_failed _ _ _ c.pass-passed.new.buffer c.fill.new.self _ b now _
     (passes_on _ c.requires.plain _ _ _ _ _ _ _ _ _ c.fills.invariant _ _ c.front.ensures
     c.len.ensures c.part_of_line-n.ensures.within c.pass-passed.ensures _ c.in_default.is
-    c.part_of_line-n.ensures.part) (sym c.is_at_end.ensures ∙ c.if-is_at_end.false) fails.0
-    (omega (
-      arith,
-      fails.0.failures,
-      c.failures.ensures,
-      c.failures.type_inv,
-      c.if-failures-eq18446744073709551615.false,
-    )) fails.1 fails.2 c.in_default-refill.ensures.size
+    c.part_of_line-n.ensures.part) (sym c.is_at_end.ensures ∙ c.if-is_at_end.false) fails.0 fails.3
+    fails.1 fails.2 c.in_default-fill.ensures.size
 
 pub fills-preserved : goal.fills-preserved
 fills-preserved g c =
     let b = source_state g.S.Source c.fills.source in
-    let now = source_state g.S.Source c.refill.new.source in
+    let now = source_state g.S.Source c.fill.new.source in
     let read = c.in-Ok.ensures.outcome in
-    passed_more _ _ _ c.pass-passed.new.buffer c.refill.new.self _ b now _ _
+    passed_more _ _ _ c.pass-passed.new.buffer c.fill.new.self _ b now _ _
     (passes_on _ c.requires.plain _ _ _ _ _ _ _ _ _ c.fills.invariant _ _ c.front.ensures
     c.len.ensures c.part_of_line-n.ensures.within c.pass-passed.ensures _ c.in_default.is
     c.part_of_line-n.ensures.part) (sym c.is_at_end.ensures ∙ c.if-is_at_end.false) read.1 read.2

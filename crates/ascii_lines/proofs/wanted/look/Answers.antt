@@ -1,27 +1,27 @@
 use Rattle.std.proofs.Common.{arith, length, subst}
 use Rattle.ascii_lines.specs.Wanted.{IsRefusal}
-use Rattle.ascii_lines.proofs.TurnsLemmas.{err_looks, find_ends, find_last, look_waits, looked_for}
-use Rattle.ascii_lines.proofs.TurnsLemmas.{refusal_looks, unfit_looks}
-use Rattle.ascii_lines.proofs.conversation.look.Goals as goal
+use Rattle.ascii_lines.proofs.TakesLemmas.{err_looks, find_ends, find_last, look_waits, looked_for}
+use Rattle.ascii_lines.proofs.TakesLemmas.{refusal_looks, unfit_looks}
+use Rattle.ascii_lines.proofs.wanted.look.Goals as goal
 
 pub returns-in_err-may_fit : goal.returns-in_err-may_fit
 returns-in_err-may_fit g c =
     let error = c.in_err-may_fit.field-0.0 in
-    err_looks c.args.is_ended c.args.wanted c.args.start c.args.buffer.now c.from_residual.result
+    err_looks c.args.wanted c.args.start c.args.is_ended c.args.buffer.now c.from_residual.result
     error c.from_residual.ensures.1
-    (unfit_looks c.args.is_ended c.args.wanted c.args.start c.args.buffer.now error
+    (unfit_looks c.args.wanted c.args.start c.args.is_ended c.args.buffer.now error
     (rw c.size.ensures at c.in_err-may_fit.ensures.err))
 
 pub find-requires-clause-searched : goal.find-requires-clause-searched
-find-requires-clause-searched g c = (looked_for c.args.is_ended c.args.wanted c.args.start
+find-requires-clause-searched g c = (looked_for c.args.wanted c.args.start c.args.is_ended
     c.args.buffer.now c.usable-text.result.now c.usable-text.ensures c.args.searched c.requires).1
 
-pub look_at-requires-clause-found : goal.look_at-requires-clause-found
-look_at-requires-clause-found g c = find_ends c.args.is_ended c.args.wanted c.args.start
-    c.args.buffer.now c.usable-text.result.now c.usable-text.ensures c.in-Some.n c.in-Some.ensures
+pub look_at-requires : goal.look_at-requires
+look_at-requires g c = find_ends c.args.wanted c.args.start c.args.is_ended c.args.buffer.now
+    c.usable-text.result.now c.usable-text.ensures c.in-Some.n c.in-Some.ensures
 
 pub returns-then-text-len : goal.returns-then-text-len
-returns-then-text-len g c = refusal_looks c.args.is_ended c.args.wanted c.args.start
+returns-then-text-len g c = refusal_looks c.args.wanted c.args.start c.args.is_ended
     c.args.buffer.now c.usable-text.result.now c.usable-text.ensures c.in_default.ensures
     (omega (arith, c.if-text-len.true, c.len.ensures)) c.refusal.result
     (subst (λ size. IsRefusal c.args.start (length c.usable-text.result.now) size c.refusal.result)
