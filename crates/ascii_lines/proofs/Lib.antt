@@ -11,3 +11,4 @@ pub mod WriteBufferLemmas
 pub mod WantedLemmas
 pub mod SkippingLemmas
 pub mod ServeLemmas
+pub mod StepLemmas

@@ -9,6 +9,7 @@ pub mod LineWriter
 pub mod Replies
 pub mod Serve
 pub mod Skipping
+pub mod Steps
 pub mod Turns
 pub mod Wanted
 pub mod WriteBuffer

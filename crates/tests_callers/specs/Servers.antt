@@ -1,11 +1,17 @@
 -- What the servers of these tests reply.
-use Rattle.std.specs.Prelude.{if◌then◌else◌, ◌≡◌, List, [], ◌∷◌, Bool, None, Some, codes, false, true, ℕ}
+use Rattle.std.specs.Prelude.{if◌then◌else◌, ◌≡◌, ◌+◌, List, [], ◌∷◌, ◌++◌, Bool, None, Some}
+use Rattle.std.specs.Prelude.{codes, false, length, true, ℕ}
 use Rattle.std.specs.Str.{bytes_eq}
 use Rattle.std.specs.declared.option.Option.{Option}
 use Rattle.ascii.specs.Lines.{Line}
-use Rattle.ascii_lines.specs.Exchanges.{given_in, said_in}
-use Rattle.ascii_lines.specs.Replies.{Reply, line_reply}
-use Rattle.ascii_lines.specs.Serve.{ChannelState, Serves}
+use Rattle.ascii.specs.declared.iter.spans.Ending.TheVariants.{Absent}
+use Rattle.ascii_devices.specs.Devices.{received_of}
+use Rattle.ascii_lines.specs.Exchanges.{TakesNothing, bytes_of, given_in, said_in}
+use Rattle.ascii_lines.specs.Replies.{Reply, Step, line_reply, rejected, took}
+use Rattle.ascii_lines.specs.Serve.{ChannelState, Serves, Talk, first_place}
+use Rattle.ascii_lines.specs.Steps.{Explains}
+use Rattle.ascii_lines.specs.Turns.{Place, Turns}
+use Rattle.ascii_lines.specs.declared.conversation.Awaited.TheVariants.{Input}
 use Rattle.ascii_lines.specs.declared.line_reader.LineError.{LineError}
 use Rattle.ascii_lines.specs.declared.serving.Next.{Next}
 use Rattle.ascii_lines.specs.declared.serving.Next.TheVariants as next
@@ -74,3 +80,27 @@ pub record ServesLamp (old : ChannelState) (lamp : Lamp) (why : Stop) (new : Cha
     (last : Lamp) : Type 0 where
   pub served : Serves LampAnswers LampRefuses old lamp why new last
   pub replies : said_in served.talk.steps ≡ lamp_replies lamp.lit (given_in served.talk.steps)
+
+-- ---- the bytes of a conversation
+
+module _ {H : Type 0} (answers : H → Line → List Reply → Next → H → Type 0)
+    (refuses : H → LineError → List Reply → Next → H → Type 0) where
+  -- a conversation over a channel took the bytes that came, step by step, and holds the others. An
+  -- error of a step is one of the bytes that were left before it. After a line without an ending no
+  -- byte is taken, and none is left
+  pub record Accounts (old : ChannelState) (handler : H) (new : ChannelState) (last : H) : Type 0
+    where
+      pub talk : Talk answers refuses old handler new last
+      pub bytes : old.talk.held ++ received_of talk.events ≡ bytes_of talk.steps ++ new.talk.held
+      pub start : new.talk.start ≡ old.talk.start + length (bytes_of talk.steps)
+      pub errors : (before : List Step) (error : LineError) (said : List Reply) (after : List Step)
+          → talk.steps ≡ before ++ rejected error said ∷ after
+          → Explains old.talk.endings old.talk.size talk.now
+          (old.talk.start + length (bytes_of before)) (bytes_of after ++ new.talk.held) error
+      pub unended : (before : List Step) (input : Line) (said : List Reply) (after : List Step)
+          → talk.steps ≡ before ++ took input said ∷ after
+          → (place : Place H)
+          × Turns answers refuses old.talk.endings old.talk.size talk.now
+          (first_place old handler (received_of talk.events)) before place
+          × (place.awaited ≡ Input next.Line → input.ending ≡ Absent
+          → TakesNothing after × (new.talk.held ≡ []))

@@ -10,7 +10,8 @@ ghost use Rattle.ascii_lines.specs.Exchanges.{said_in};
 ghost use Rattle.ascii_lines.specs.Replies.{Step};
 ghost use Rattle.ascii_lines.specs.Serve.{IsUp};
 ghost use Rattle.ascii_lines.specs.Turns.{Turns, place_of, place_with};
-ghost use Rattle.tests_callers.specs.Servers.{ServesLamp, echo_reply, lit_after, reply_line, reply_to};
+ghost use Rattle.tests_callers.specs.Servers.{Accounts, ServesLamp, echo_reply, lit_after, reply_line};
+ghost use Rattle.tests_callers.specs.Servers.{reply_to};
 
 use ascii_lines::{
     AsciiStr, Channel, Conversation, Duplex, Ending, Endings, Handler, LineChannel, LineError,
@@ -195,6 +196,18 @@ pub fn serve_lamp<C: Channel, A: Allocator>(lines: &mut LineChannel<C, A>, lamp:
     ensures { ServesLamp lines.old.state lamp.old result lines.new.state lamp.new }
 {
     serve(lines, lamp)
+}
+
+/// Answers the lines of a channel. Each byte that came is one of a step, in order, or is held; each error is one of the
+/// bytes at its position; and nothing is taken after a line without an ending.
+pub fn serve_all<C: Channel, H: Handler, A: Allocator>(
+    lines: &mut LineChannel<C, A>,
+    handler: &mut H,
+) -> Stop
+    requires { IsUp lines.old.state }
+    ensures { Accounts H.answers H.refuses lines.old.state handler.old lines.new.state handler.new }
+{
+    serve(lines, handler)
 }
 
 /// Feeds a conversation with two pieces of an input, and returns whether both were taken whole. Then the steps are those of
