@@ -1,8 +1,6 @@
 -- A conversation as its handler sees it.
 use Rattle.std.proofs.Common.{◌≡◌, ◌∙◌, ℕ, List, [], ◌∷◌, ◌++◌, None, Option, Some, append-nil, ap}
-use Rattle.std.proofs.Common.{arith}
-use Rattle.std.proofs.Common.{inl, inr, length, length-append, true}
-use Rattle.std.proofs.Common.{refl, subst, sym}
+use Rattle.std.proofs.Common.{arith, inl, inr, length, length-append, true, refl, subst, sym}
 use Rattle.std.proofs.lemmas.Grind.{flat_map-append}
 use Rattle.std.specs.Io.KnownBytes.{Appends, Consumes, IsAtEnd}
 use Rattle.std.specs.List.{flat_map}
@@ -10,13 +8,11 @@ use Rattle.std.specs.Prelude.{IfSome}
 use Rattle.ascii.proofs.LinesLemmas.{LinesEndedBy-cons, LinesEndedBy-nil}
 use Rattle.ascii.specs.Lines.{Line, LinesEndedBy, line_text}
 use Rattle.ascii.specs.declared.iter.spans.Ending.{Ending}
-use Rattle.ascii.specs.declared.iter.spans.Ending.TheVariants.{Absent}
 use Rattle.ascii.specs.declared.iter.spans.Endings.{Endings}
 use Rattle.ascii_devices.specs.Devices.{received_of}
 use Rattle.ascii_lines.specs.Exchanges.{IsReplier, Runs, inputs_of, said_in}
 use Rattle.ascii_lines.specs.Replies.{IsInputOf, Reply, Step, rejected, reply_bytes, reply_text}
-use Rattle.ascii_lines.specs.Replies.{skipped}
-use Rattle.ascii_lines.specs.Replies.{took}
+use Rattle.ascii_lines.specs.Replies.{skipped, took}
 use Rattle.ascii_lines.specs.Serve.{ChannelState, RepliesToAll, Serves, Talk, first_place}
 use Rattle.ascii_lines.specs.Turns.{Completes, IsTurnAt, Place, Stops, Turns, awaited_by, is_ended}
 use Rattle.ascii_lines.specs.Turns.{place_of}
@@ -29,7 +25,6 @@ use Rattle.ascii_lines.specs.declared.serving.Next.{Next}
 use Rattle.ascii_lines.specs.declared.serving.Next.TheVariants as next
 use Rattle.ascii_lines.specs.declared.serving.Stop.{Stop}
 use Rattle.ascii_lines.specs.declared.serving.Stop.TheVariants as stop
-use Rattle.ascii_lines.specs.declared.wanted.Wanted.{Wanted}
 use Rattle.ascii_lines.specs.declared.wanted.Wanted.TheVariants as wanted
 use Rattle.ascii.proofs.LinesByLemmas.{MayFollow-ended}
 use Rattle.ascii_lines.proofs.LineReaderLemmas.{line_bytes}

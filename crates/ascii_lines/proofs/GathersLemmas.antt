@@ -1,5 +1,5 @@
 -- What a source gave while something was wanted, one read after another.
-use Rattle.std.proofs.Common.{◌≡◌, ◌≢◌, ◌==◌, ◌+◌, ◌<◌, ◌≤◌, List, [], ◌∷◌, ◌++◌, ℕ, Bool, true}
+use Rattle.std.proofs.Common.{◌≡◌, ◌≢◌, ◌==◌, List, [], ◌∷◌, ◌++◌, ℕ, Bool, true}
 use Rattle.std.proofs.Common.{ap, append_assoc, append-nil, arith, eqb-true, false, length, refl}
 use Rattle.std.proofs.Common.{inl, inr, subst, sym, ◌⊎◌, ◌∙◌}
 use Rattle.std.specs.List.{All, flat_map}
@@ -134,14 +134,3 @@ Gathers-failed Must held was mid is a b c text new so_far more kept must (inl fa
 abbrev pub reads_left : Bool → ℕ
 reads_left true = 0
 reads_left false = 1
-
-pub reads_left_one : (is_at_end : Bool) → reads_left is_at_end ≤ 1
-reads_left_one true = omega arith
-reads_left_one false = omega arith
-
--- a read that returns no bytes is the last one
-pub read_counts : (read : List ℕ) (mid is : Bool) → mid ≡ false → is ≡ (length read == 0)
-    → reads_left is < reads_left mid + length read
-read_counts [] mid is more last = omega (arith, ap reads_left last, ap reads_left more)
-read_counts (b ∷ read) mid is more last =
-    omega (arith, reads_left_one is, ap reads_left more)

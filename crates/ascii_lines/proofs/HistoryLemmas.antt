@@ -1,18 +1,13 @@
 -- Writes and flushes that a history tells of, one after another.
-use Rattle.std.proofs.Common.{◌≡◌, ◌⊎◌, ℕ, List, [], ◌∷◌, ◌++◌, Bool, Option, ap, false, inl, inr}
-use Rattle.std.proofs.Common.{refl, subst, sym, true, ◌∙◌}
-use Rattle.std.proofs.Common.{append_assoc, append-nil, map}
-use Rattle.std.specs.List.{flat_map}
-use Rattle.std.proofs.lemmas.Bool.{false≢true}
-use Rattle.std.proofs.lemmas.Grind.{flat_map-append}
-use Rattle.ascii_devices.proofs.HistoryLemmas.{Grows-trans, received_of-append}
-use Rattle.ascii_devices.proofs.HistoryLemmas.{sent_of-all, sent_of-append}
-use Rattle.ascii_devices.specs.Devices.{Grows, read_of, received_of, sent_of, write_of}
+use Rattle.std.proofs.Common.{◌≡◌, ℕ, List, [], ◌∷◌, ◌++◌, Option, ap}
+use Rattle.std.proofs.Common.{refl, subst, sym, ◌∙◌, append_assoc, append-nil, map}
+use Rattle.ascii_devices.proofs.HistoryLemmas.{Grows-trans, sent_of-all}
+use Rattle.ascii_devices.proofs.HistoryLemmas.{sent_of-append}
+use Rattle.ascii_devices.specs.Devices.{Grows, received_of, sent_of, write_of}
 use Rattle.ascii_devices.specs.declared.log.Event.{Event}
 use Rattle.ascii_devices.specs.declared.log.Event.TheVariants.{Flushed, Read, Received, Sent}
 use Rattle.ascii_lines.specs.History.{AreWrites, EndsInEmptyRead, TellsSent}
 use Rattle.ascii_lines.specs.Serve.{AtEachRead, IsFlushed}
-use Rattle.ascii_lines.specs.Wanted.{Asks, ReachesEnd, all_of}
 
 pub AreWrites-append : (xs ys : List Event) → AreWrites xs → AreWrites ys → AreWrites (xs ++ ys)
 AreWrites-append [] ys first then = then

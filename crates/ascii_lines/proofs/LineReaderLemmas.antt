@@ -1,7 +1,6 @@
 -- What a line reader has read and yielded, one call after another.
-use Rattle.std.proofs.Common.{◌≡◌, ◌≢◌, ℕ, ◌+◌, ◌-◌, List, [], ◌∷◌, ◌++◌, length, take, None}
-use Rattle.std.proofs.Common.{Some, Ok, Err, Option, Result, refl, sym, ap, subst, ◌∙◌, arith}
-use Rattle.std.proofs.Common.{inl, inr}
+use Rattle.std.proofs.Common.{◌≡◌, ◌≢◌, ℕ, ◌+◌, ◌-◌, List, [], ◌∷◌, ◌++◌, length, take, None, Some}
+use Rattle.std.proofs.Common.{Ok, Err, Option, Result, refl, sym, ap, subst, ◌∙◌, arith, inl, inr}
 use Rattle.std.proofs.Common.{◌<◌, ◌^◌, add-zero, append_assoc, append-nil, length-append}
 use Rattle.std.specs.Io.KnownBytes.{Consumes, IsAtEnd}
 use Rattle.std.specs.List.{All, flat_map}
@@ -19,9 +18,8 @@ use Rattle.ascii.proofs.LinesByLemmas.{MayFollow-ended, any_text_spans, some_spa
 use Rattle.ascii.proofs.LinesLemmas.{LinesEndedBy-nil}
 use Rattle.ascii_devices.proofs.HistoryLemmas.{Gives-nil, Gives-trans}
 use Rattle.ascii_devices.specs.States.{of_state}
-use Rattle.ascii_lines.specs.LineReader.{IsDone, Next, NextFrom, PassesOver, ReaderState}
-use Rattle.ascii_lines.specs.LineReader.{Reading, ReadsBytes, StopsAt, Takes, TakesLine}
-use Rattle.ascii_lines.specs.LineReader.{YieldsLines}
+use Rattle.ascii_lines.specs.LineReader.{IsDone, Next, NextFrom, PassesOver, ReaderState, Reading}
+use Rattle.ascii_lines.specs.LineReader.{ReadsBytes, StopsAt, Takes, TakesLine, YieldsLines}
 use Rattle.ascii_lines.specs.LineReader.{read_line_in}
 use Rattle.ascii_lines.specs.Wanted.{all_of}
 use Rattle.ascii_lines.specs.declared.line_reader.LineError.{LineError}

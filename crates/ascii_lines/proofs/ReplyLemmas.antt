@@ -1,7 +1,6 @@
 -- Replies of a handler, one after another.
 use Rattle.std.proofs.Common.{◌≡◌, ℕ, List, [], ◌∷◌, ◌++◌, Bool, true, false, IsTrue, append_assoc}
-use Rattle.std.proofs.Common.{append-nil}
-use Rattle.std.proofs.Common.{Err, Ok, Result, ap, inl, inr, refl, subst, sym, ◌∙◌}
+use Rattle.std.proofs.Common.{append-nil, Err, Ok, Result, ap, inl, inr, refl, subst, sym, ◌∙◌}
 use Rattle.std.specs.Prelude.{not}
 use Rattle.std.proofs.lemmas.Bool.{false≢true}
 use Rattle.std.proofs.lemmas.Grind.{flat_map-append}
@@ -13,11 +12,9 @@ use Rattle.ascii_devices.specs.Buffered.{OutputState}
 use Rattle.ascii_lines.specs.Failures.{one_more}
 use Rattle.ascii.specs.Endings.{is_line_break}
 use Rattle.ascii_lines.specs.LineWriter.{FailsToWrite, WritesBytes}
-use Rattle.ascii_lines.specs.Replies.{Reply, IsLineOutcome, Says, SaysBytes, Saying}
-use Rattle.ascii_lines.specs.Replies.{is_unbroken, line_given, line_reply, part_reply, reply_bytes}
-use Rattle.ascii_lines.specs.Replies.{reply_text}
-use Rattle.ascii_lines.proofs.WriteBufferLemmas.{Passes-prefix, Passes-trans}
-use Rattle.ascii_lines.proofs.WriteBufferLemmas.{PassesPrefix-more}
+use Rattle.ascii_lines.specs.Replies.{Reply, IsLineOutcome, Says, SaysBytes, Saying, is_unbroken}
+use Rattle.ascii_lines.specs.Replies.{line_given, line_reply, part_reply, reply_bytes, reply_text}
+use Rattle.ascii_lines.proofs.WriteBufferLemmas.{Passes-prefix, Passes-trans, PassesPrefix-more}
 
 -- ---- bytes after bytes
 

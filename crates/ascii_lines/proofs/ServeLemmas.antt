@@ -1,15 +1,12 @@
 -- A conversation over a device: steps, writes and reads, one after another.
-use Rattle.std.proofs.Common.{◌≡◌, ◌≢◌, ◌⊎◌, ◌∙◌, ℕ, ◌+◌, ◌-◌, ◌*◌, ◌^◌, ◌<◌, ◌≤◌, List, [], ◌∷◌}
-use Rattle.std.proofs.Common.{◌++◌}
-use Rattle.std.proofs.Common.{Bool, Err, None, Ok, Option, Result, Some, ap, append_assoc}
-use Rattle.std.proofs.Common.{append-nil}
-use Rattle.std.proofs.Common.{arith, false, inl, inr, length, length-append, map, refl, subst, sym}
-use Rattle.std.proofs.Common.{true, ◌==◌}
+use Rattle.std.proofs.Common.{◌≡◌, ◌≢◌, ◌⊎◌, ◌∙◌, ℕ, ◌+◌, ◌-◌, ◌^◌, ◌<◌, ◌≤◌, List, [], ◌∷◌}
+use Rattle.std.proofs.Common.{◌++◌, Bool, Err, None, Ok, Some, ap, append_assoc}
+use Rattle.std.proofs.Common.{append-nil, arith, false, inl, inr, length, length-append, map, refl}
+use Rattle.std.proofs.Common.{subst, sym, true, ◌==◌}
 use Rattle.std.proofs.KnownBytes.{Appends-nil, Appends-trans}
 use Rattle.std.proofs.lemmas.Bool.{false≢true}
 use Rattle.std.proofs.lemmas.Grind.{flat_map-append}
 use Rattle.std.specs.Io.KnownBytes.{Appends, IsAtEnd}
-use Rattle.std.specs.Prelude.{MatchResult}
 use Rattle.ascii.specs.Lines.{Line}
 use Rattle.ascii.specs.declared.iter.spans.Ending.{Ending}
 use Rattle.ascii.specs.declared.iter.spans.Endings.{Endings}
@@ -22,16 +19,14 @@ use Rattle.ascii_devices.specs.States.{Gives, SourceState, of_state}
 use Rattle.ascii_devices.specs.declared.log.Event.{Event}
 use Rattle.ascii_devices.specs.declared.log.Event.TheVariants.{Flushed, Read, Received}
 use Rattle.ascii_lines.specs.Exchanges.{bytes_of, said_in}
-use Rattle.ascii_lines.specs.Failures.{one_more}
 use Rattle.ascii_lines.specs.History.{AreWrites, EndsInEmptyRead}
-use Rattle.ascii_lines.specs.LineBuffer.{FailsOnce, ReadsOnce, WindowState}
+use Rattle.ascii_lines.specs.LineBuffer.{ReadsOnce, WindowState}
 use Rattle.ascii_lines.specs.LineWriter.{FailsToWrite, Flushes, FlushesFrom, Writing}
 use Rattle.ascii_lines.specs.Replies.{Reply, Says, SaysBytes, Saying, Step, reply_bytes, reply_text}
 use Rattle.ascii_lines.specs.Serve.{AtEachRead, ChannelState, CountsBy, IsAnswered, IsFlushed}
-use Rattle.ascii_lines.specs.Serve.{IsRead}
-use Rattle.ascii_lines.specs.Serve.{IsUnread, IsUp, ReadsOn, SendsOut, SentBy, Serves, SoFar, Talk}
-use Rattle.ascii_lines.specs.Serve.{Wrote}
-use Rattle.ascii_lines.specs.Serve.{first_place, read_side}
+use Rattle.ascii_lines.specs.Serve.{IsRead, IsUnread, IsUp, ReadsOn, SendsOut, SentBy, Serves}
+use Rattle.ascii_lines.specs.Serve.{SoFar, Talk, Wrote, first_place, read_side}
+use Rattle.ascii_lines.specs.Turns.{OnlyMoves}
 use Rattle.ascii_lines.specs.Turns.{Converses, IsOver, Lacks, Place, TalkState, Turns, is_ended}
 use Rattle.ascii_lines.specs.Turns.{place_at, place_of, place_with, stop_of, supply_at, with_more}
 use Rattle.ascii_lines.specs.declared.conversation.Awaited.{Awaited}
@@ -49,8 +44,8 @@ use Rattle.ascii_lines.proofs.GathersLemmas.{is_none, is_some}
 use Rattle.ascii_lines.proofs.HistoryLemmas.{AreWrites-append, AreWrites-sent, AtEachRead-append}
 use Rattle.ascii_lines.proofs.HistoryLemmas.{AtEachRead-received, AtEachRead-writes}
 use Rattle.ascii_lines.proofs.HistoryLemmas.{EndsInEmptyRead-writes, IsFlushed-after}
-use Rattle.ascii_lines.proofs.HistoryLemmas.{IsFlushed-last}
-use Rattle.ascii_lines.proofs.HistoryLemmas.{received_of-bytes, received_of-writes, sent_of-bytes}
+use Rattle.ascii_lines.proofs.HistoryLemmas.{IsFlushed-last, received_of-bytes, received_of-writes}
+use Rattle.ascii_lines.proofs.HistoryLemmas.{sent_of-bytes}
 use Rattle.ascii_lines.proofs.TurnsLemmas.{Turns-append, Turns-bytes, Turns-more, said-append}
 use Rattle.ascii_lines.proofs.TurnsLemmas.{some_length, supply_ended}
 
@@ -788,11 +783,11 @@ pub resumed : {H C : Type 0} (answers : H → Line → List Reply → Next → H
     → out.ending ≡ old.ending → IsUp old → (new : TalkState) (last : H)
     → Converses answers refuses talk.endings talk.size (supply_at talk.is_at_end)
     (place_of (record talk { awaited = Input next.Line }) handler) out (place_of new last) said
-    → new.size ≡ talk.size → new.endings ≡ talk.endings → new.is_at_end ≡ talk.is_at_end
+    → OnlyMoves talk new
     → SoFar answers refuses old handler
     (record { talk = new; output = said.state; ending = said.ending }) last
-resumed {H} {C} answers refuses old handler talk out said is state ending up new last converses size
-    endings at_end =
+resumed {H} {C} answers refuses old handler talk out said is state ending up new last converses
+    moves =
     let now = supply_at old.talk.is_at_end in
     let c : Converses answers refuses old.talk.endings old.talk.size now
     (place_of (record old.talk { awaited = Input next.Line }) handler) out (place_of new last) said
@@ -809,6 +804,7 @@ resumed {H} {C} answers refuses old handler talk out said is state ending up new
     out
     (place_of new last) said) (sym (append-nil old.talk.held)) c)
     (λ over. let e : Input next.Line ≡ Nothing over.0 = over.1 in cc)
-    (supply_ended old.talk.is_at_end ∙ sym (at_end ∙ ap (λ (t : TalkState). t.is_at_end) is))
+    (supply_ended old.talk.is_at_end ∙ sym (moves.at_end ∙ ap (λ (t : TalkState). t.is_at_end) is))
     (λ is. absurd (supply_reads old.talk.is_at_end is))
-    (size ∙ ap (λ (t : TalkState). t.size) is) (endings ∙ ap (λ (t : TalkState). t.endings) is)
+    (moves.size ∙ ap (λ (t : TalkState). t.size) is)
+    (moves.endings ∙ ap (λ (t : TalkState). t.endings) is)

@@ -1,8 +1,8 @@
 -- Where a line ends in bytes that come in two parts.
-use Rattle.std.proofs.Common.{◌≢◌, ◌≡◌, ℕ, ◌+◌, ◌-◌, ◌<◌, ◌≤◌, List, [], ◌++◌, length, get_or}
-use Rattle.std.proofs.Common.{◌==◌, ◌⊎◌, arith, false, inl, true}
-use Rattle.std.proofs.Common.{inr, length-append, refl, subst, sym, take, drop, None, Option}
-use Rattle.std.proofs.Common.{Some, ◌∷◌, ap, append_assoc, append-nil, ◌∙◌}
+use Rattle.std.proofs.Common.{◌≢◌, ◌≡◌, ℕ, ◌+◌, ◌-◌, ◌<◌, ◌≤◌, List, [], ◌++◌, length, get_or, ◌==◌}
+use Rattle.std.proofs.Common.{◌⊎◌, arith, false, inl, true, inr, length-append, refl, subst, sym}
+use Rattle.std.proofs.Common.{take, drop, None, Option, Some, ◌∷◌, ap, append_assoc, append-nil}
+use Rattle.std.proofs.Common.{◌∙◌}
 use Rattle.std.proofs.Math.ListN.{get_or-append}
 use Rattle.std.proofs.Math.Seq.{drop-length, get_or-append_right}
 use Rattle.std.proofs.lemmas.Bool.{cases_lt}
@@ -18,9 +18,8 @@ use Rattle.ascii_lines.specs.Failures.{one_more}
 use Rattle.std.proofs.lemmas.Str.Ascii.{IsAscii-nil}
 use Rattle.ascii_lines.specs.LineBuffer.{FailsOnce, ReadsOnce, WindowState}
 use Rattle.ascii_lines.specs.Skipping.{Counts, HasNoEnd, IsCleanCut, IsKept, PassesBytes}
-use Rattle.ascii_lines.specs.Skipping.{PassesLine}
+use Rattle.ascii_lines.specs.Skipping.{PassesLine, TakesPart}
 use Rattle.ascii_lines.specs.Wanted.{Gathers, KnowsEnd}
-use Rattle.ascii_lines.specs.Skipping.{TakesPart}
 use Rattle.ascii_lines.specs.declared.skipping.PassEnd.{PassEnd}
 use Rattle.ascii_lines.specs.declared.skipping.PassEnd.TheVariants as end
 use Rattle.ascii_lines.specs.declared.skipping.Passed.{Passed}

@@ -1,9 +1,8 @@
 -- Looking for what is wanted in a buffer, and taking it off.
-use Rattle.std.proofs.Common.{Bool, true, false, drop, ◌≤◌, take-append-drop, Err, IfErr, None}
-use Rattle.std.proofs.Common.{Ok, OnErr, Option, Result, Some, ◌∷◌}
-use Rattle.std.proofs.Common.{◌≡◌, ◌≢◌, ◌⊎◌, ℕ, ◌+◌, ◌-◌, ◌<◌, ◌^◌, List, [], ◌++◌, length, take}
-use Rattle.std.proofs.Common.{get_or}
-use Rattle.std.proofs.Common.{arith, inl, inr, length-append, append-nil, refl, sym, ap, subst, ◌∙◌}
+use Rattle.std.proofs.Common.{Bool, true, false, drop, ◌≤◌, take-append-drop, Err, IfErr, None, Ok}
+use Rattle.std.proofs.Common.{OnErr, Option, Result, Some, ◌∷◌, ◌≡◌, ◌≢◌, ◌⊎◌, ℕ, ◌+◌, ◌-◌, ◌<◌}
+use Rattle.std.proofs.Common.{◌^◌, List, [], ◌++◌, length, take, get_or, arith, inl, inr}
+use Rattle.std.proofs.Common.{length-append, append-nil, refl, sym, ap, subst, ◌∙◌}
 use Rattle.std.specs.Result.{IsErrAnd}
 use Rattle.std.specs.Str.{IsAscii}
 use Rattle.std.proofs.Math.ListN.{get_or-append}
@@ -37,6 +36,13 @@ use Rattle.ascii_lines.proofs.WantedLemmas.{searched_lacks, searched_none, searc
 use Rattle.ascii_lines.proofs.WantedLemmas.{usable_least}
 
 -- ---- a lone CR or LF
+
+-- the byte at `i`, one of the last two, is a CR or an LF that is not part of a CR LF
+abbrev LoneIn : List ℕ → ℕ → Type 0
+LoneIn given i = ((length given ≡ i + 1) × (get_or given i 0 ≡ 10) × ¬ (IsCrLfAt given i))
+    ⊎ ((length given ≡ i + 2) × (get_or given i 0 ≡ 13) × (get_or given (i + 1) 0 ≢ 10))
+    ⊎ ((length given ≡ i + 1) × (get_or given i 0 ≡ 13)
+    × ((k : ℕ) → length given ≡ k + 2 → get_or given k 0 ≢ 13))
 
 module _ (wanted : Wanted) (size : ℕ) (given held : List ℕ) (is_at_end : Bool) (i : ℕ)
     (fits : length given ≤ size) (may : MayHave wanted given)
@@ -95,57 +101,43 @@ module _ (wanted : Wanted) (size : ℕ) (given held : List ℕ) (is_at_end : Boo
         λ is. other (sym (here (i + 1) (omega (arith, long))) ∙ is),
       )))
 
--- the last bytes of an input have a lone CR or LF among the last two
-lone_at_end : (wanted : Wanted) (size : ℕ) (given held : List ℕ) (is_at_end : Bool) (i : ℕ)
-    → length given ≤ size → MayHave wanted given → FreeUpTo CrLfStrict given (length given)
-    → held ≡ [] → is_at_end ≡ true
-    → ((length given ≡ i + 1) × (get_or given i 0 ≡ 10) × ¬ (IsCrLfAt given i))
-    ⊎ ((length given ≡ i + 2) × (get_or given i 0 ≡ 13) × (get_or given (i + 1) 0 ≢ 10))
-    ⊎ ((length given ≡ i + 1) × (get_or given i 0 ≡ 13)
-    × ((k : ℕ) → length given ≡ k + 2 → get_or given k 0 ≢ 13))
-    → IsLoneBreak wanted size (given ++ held) is_at_end i (length given)
-lone_at_end wanted size given held is_at_end i fits may free none ended lone =
-    let less : FreeUpTo CrLfStrict given (length given - 1) =
-    λ k low. free k (omega (arith, low)) in
-    elim lone [
-      | inl feed ↦ lone_feed wanted size given held is_at_end i fits may less feed.0 feed.1 feed.2
-      | inr others ↦ elim others [
-        | inl cr ↦ lone_cr wanted size given held is_at_end i fits may less cr.0 cr.1 cr.2
-        | inr last ↦ lone_of wanted size given held is_at_end i fits may less
-            (λ k before. (
-              λ is. free k (omega (arith, before, last.0)) (inl is),
-              no_cr_below given (length given) k free (omega (arith, before, last.0)),
-            )) (omega (arith, last.0))
-            (inr (inr (
-              last.0,
-              ap length (sym (append-nil given)) ∙ ap (λ xs. length (given ++ xs)) (sym none),
-              get_or-append given held 0 i (omega (arith, last.0)) ∙ last.1,
-              ended,
-            )))
-      ]
-    ]
-
--- so have bytes of which the last is the first that stops
-lone_at_stop : (wanted : Wanted) (size : ℕ) (given held : List ℕ) (is_at_end : Bool) (i : ℕ)
-    → length given ≤ size → MayHave wanted given → IsFirstStop CrLfStrict given (length given)
-    → ((length given ≡ i + 1) × (get_or given i 0 ≡ 10) × ¬ (IsCrLfAt given i))
-    ⊎ ((length given ≡ i + 2) × (get_or given i 0 ≡ 13) × (get_or given (i + 1) 0 ≢ 10))
-    ⊎ ((length given ≡ i + 1) × (get_or given i 0 ≡ 13)
-    × ((k : ℕ) → length given ≡ k + 2 → get_or given k 0 ≢ 13))
-    → IsLoneBreak wanted size (given ++ held) is_at_end i (length given)
-lone_at_stop wanted size given held is_at_end i fits may stop lone = elim lone [
-  | inl feed ↦ lone_feed wanted size given held is_at_end i fits may stop.free feed.0 feed.1 feed.2
-  | inr others ↦ elim others [
-    | inl cr ↦ lone_cr wanted size given held is_at_end i fits may stop.free cr.0 cr.1 cr.2
-    | inr last ↦ elim stop.last [
-      | inl feed ↦
-          let same : length given - 1 ≡ i = omega (arith, last.0) in
-          let here : get_or given i 0 ≡ 10 = subst (λ j. get_or given j 0 ≡ 10) same feed in
-          absurd (omega (arith, here, last.1))
-      | inr cr ↦ absurd (last.2 (length given - 1 - 1) (omega (arith, cr.0)) cr.1)
+  lone_by : LoneIn given i
+      → ((length given ≡ i + 1) × (get_or given i 0 ≡ 13)
+      × ((k : ℕ) → length given ≡ k + 2 → get_or given k 0 ≢ 13)
+      → IsLoneBreak wanted size (given ++ held) is_at_end i (length given))
+      → IsLoneBreak wanted size (given ++ held) is_at_end i (length given)
+  lone_by lone at_last = elim lone [
+    | inl feed ↦ lone_feed feed.0 feed.1 feed.2
+    | inr others ↦ elim others [
+      | inl cr ↦ lone_cr cr.0 cr.1 cr.2
+      | inr last ↦ at_last last
     ]
   ]
-]
+
+  -- the last bytes of an input have a lone CR or LF among the last two
+  lone_at_end : FreeUpTo CrLfStrict given (length given) → held ≡ [] → is_at_end ≡ true
+      → LoneIn given i → IsLoneBreak wanted size (given ++ held) is_at_end i (length given)
+  lone_at_end whole none ended lone = lone_by lone (λ last. lone_of
+      (λ k before. (
+        λ is. whole k (omega (arith, before, last.0)) (inl is),
+        no_cr_below given (length given) k whole (omega (arith, before, last.0)),
+      )) (omega (arith, last.0))
+      (inr (inr (
+        last.0,
+        ap length (sym (append-nil given)) ∙ ap (λ xs. length (given ++ xs)) (sym none),
+        get_or-append given held 0 i (omega (arith, last.0)) ∙ last.1,
+        ended,
+      ))))
+
+  -- so have bytes of which the last is the first that stops
+  lone_at_stop : IsFirstStop CrLfStrict given (length given) → LoneIn given i
+      → IsLoneBreak wanted size (given ++ held) is_at_end i (length given)
+  lone_at_stop stop lone = lone_by lone (λ last. elim stop.last [
+    | inl feed ↦
+        let same : length given - 1 ≡ i = omega (arith, last.0) in
+        absurd (omega (arith, subst (λ j. get_or given j 0 ≡ 10) same feed, last.1))
+    | inr cr ↦ absurd (last.2 (length given - 1 - 1) (omega (arith, cr.0)) cr.1)
+  ])
 
 some_bytes : (bytes : List ℕ) → bytes ≢ [] → 0 < length bytes
 some_bytes [] some = absurd (some refl)
@@ -229,18 +221,18 @@ module _ (wanted : Wanted) (start : ℕ) (buffer : WindowState) (n : ℕ)
           → StopsBy (Line endings) buffer n is_last' → FindsLoneBreak endings bytes (Some i)
           → IsLoneBreak wanted buffer.size (bytes ++ others) buffer.is_at_end i (length bytes)
       line wanted endings true may stops lone =
-          let none : others ≡ [] =
-          ap (λ k. drop k buffer.held) stops.0 ∙ drop-length buffer.held in
-          lone_at_end wanted buffer.size bytes others buffer.is_at_end i fits may
-          (subst (λ kind. FreeUpTo kind bytes (length bytes)) lone.0
+          let whole = subst (λ kind. FreeUpTo kind bytes (length bytes)) lone.0
           (subst (FreeUpTo endings bytes) (sym long)
-          (searched_front buffer.held n n (omega arith)
-          (Line endings) stops.2))) none stops.1 lone.1
+          (searched_front buffer.held n n (omega arith) (Line endings) stops.2)) in
+          lone_at_end wanted buffer.size bytes others buffer.is_at_end i fits may
+          (λ k low. whole k (omega (arith, low))) whole
+          (ap (λ k. drop k buffer.held) stops.0 ∙ drop-length buffer.held) stops.1 lone.1
       line wanted endings false may stops lone =
-          lone_at_stop wanted buffer.size bytes others buffer.is_at_end i fits may
-          (subst (λ kind. IsFirstStop kind bytes (length bytes)) lone.0
+          let stop = subst (λ kind. IsFirstStop kind bytes (length bytes)) lone.0
           (subst (IsFirstStop endings bytes) (sym long)
-          (ends_front buffer.held n n (omega arith) (Line endings) stops))) lone.1
+          (ends_front buffer.held n n (omega arith) (Line endings) stops)) in
+          lone_at_stop wanted buffer.size bytes others buffer.is_at_end i fits may stop.free stop
+          lone.1
 
       as_line : (endings : Endings) (is_last' : Bool)
           → StopsBy (Bytes endings) buffer n is_last'

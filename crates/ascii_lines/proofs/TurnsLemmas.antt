@@ -1,15 +1,12 @@
 -- Steps of a conversation, one after another.
 use Rattle.std.proofs.Common.{◌≡◌, ◌≢◌, ◌⊎◌, ◌∙◌, ℕ, ◌+◌, ◌*◌, ◌-◌, ◌^◌, ◌<◌, ◌≤◌, List, [], ◌∷◌}
-use Rattle.std.proofs.Common.{◌++◌}
-use Rattle.std.proofs.Common.{Bool, Err, None, Ok, Option, Result, Some, ap, append_assoc}
-use Rattle.std.proofs.Common.{append-nil}
-use Rattle.std.proofs.Common.{arith, drop, false, inl, inr, length, length-append, refl, subst, sym}
-use Rattle.std.proofs.Common.{take, true}
+use Rattle.std.proofs.Common.{◌++◌, Bool, Err, None, Some, ap, append_assoc}
+use Rattle.std.proofs.Common.{append-nil, arith, drop, false, inl, inr, length, length-append, refl}
+use Rattle.std.proofs.Common.{subst, sym, take, true, get_or}
 use Rattle.std.proofs.Math.Seq.{drop-length, take-append_seam}
 use Rattle.std.proofs.lemmas.Bool.{false≢true}
-use Rattle.std.proofs.Common.{get_or}
-use Rattle.std.proofs.lemmas.List.{get_or-drop, length-drop}
-use Rattle.std.proofs.lemmas.List.{length-take-le, nil_from_length, take-append-drop}
+use Rattle.std.proofs.lemmas.List.{get_or-drop, length-take-le, nil_from_length}
+use Rattle.std.proofs.lemmas.List.{take-append-drop}
 use Rattle.std.proofs.lemmas.Str.Ascii.{IsAscii-nil}
 use Rattle.std.specs.Str.{IsAscii}
 use Rattle.ascii.proofs.EndingsLemmas.{FreeUpTo-more}
@@ -20,16 +17,14 @@ use Rattle.ascii_lines.specs.Exchanges.{bytes_of, said_in, step_bytes}
 use Rattle.ascii_lines.specs.LineBuffer.{WindowState}
 use Rattle.ascii_lines.specs.LineReader.{Finds, Looks, StopsBy, window_at}
 use Rattle.ascii_lines.specs.Replies.{IsInputOf, IsRequest, Reply, Says, Saying, Step}
-use Rattle.ascii_lines.specs.Replies.{at_end_before}
-use Rattle.ascii_lines.specs.Replies.{rejected, skipped, took}
-use Rattle.ascii_lines.specs.Skipping.{HasNoEnd, IsFinal, TakesPart, WhyNotSkipped}
-use Rattle.ascii_lines.specs.Turns.{Completes, Converses, Faults, GoesTo}
-use Rattle.ascii_lines.specs.Turns.{IsOver, IsRequested, IsSearchedFor, IsSound, IsTurn, IsTurnAt}
-use Rattle.ascii_lines.specs.Turns.{Lacks, Place, Rests, SkipTurn, SkipsIn, SkipsTo, Stops}
-use Rattle.ascii_lines.specs.Turns.{TalkState, TurnOutcome, Turns, Wants, awaited_by, is_ended}
-use Rattle.ascii_lines.specs.Turns.{left_of, place_at, place_of, place_with, supply_at}
-use Rattle.ascii_lines.specs.Turns.{with_more}
-use Rattle.ascii_lines.specs.Wanted.{EndsAt, IsOne, MayBeLast, Rejects}
+use Rattle.ascii_lines.specs.Replies.{at_end_before, rejected, skipped, took}
+use Rattle.ascii_lines.specs.Skipping.{IsFinal, TakesPart, WhyNotSkipped}
+use Rattle.ascii_lines.specs.Turns.{Completes, Converses, Faults, GoesTo, IsOver, IsRequested}
+use Rattle.ascii_lines.specs.Turns.{IsSearchedFor, IsSound, IsTurn, IsTurnAt, Lacks, Place, Rests}
+use Rattle.ascii_lines.specs.Turns.{SkipTurn, SkipsIn, SkipsTo, Stops, TalkState, TurnOutcome}
+use Rattle.ascii_lines.specs.Turns.{Turns, Wants, awaited_by, is_ended, left_of, place_at, place_of}
+use Rattle.ascii_lines.specs.Turns.{place_with, supply_at, with_more}
+use Rattle.ascii_lines.specs.Wanted.{EndsAt, IsOne, MayBeLast, MustRead, Rejects}
 use Rattle.ascii_lines.specs.declared.conversation.Awaited.{Awaited}
 use Rattle.ascii_lines.specs.declared.conversation.Awaited.TheVariants.{Input, LineEnd, Nothing}
 use Rattle.ascii_lines.specs.declared.conversation.Supply.{Supply}
@@ -423,19 +418,6 @@ module _ {H K : Type 0} (answers : H → Line → List Reply → Next → H → 
           (Says-trans out said after (said_in going.steps) (said_in (step ∷ [])) going.says says),
     )
 
-    -- the conversation is over
-    pub then_over : IsOver mid.awaited → Converses answers refuses endings size now old out mid said
-    then_over over = record {
-      steps = going.steps;
-      turns = going.turns;
-      says = going.says;
-      rests = (going.request, inr (over, going.used));
-      closed = inr over;
-      written = inl over;
-      ended = going.ended;
-      failed = λ is. inl (going.failed is);
-    }
-
     writer_turn : (awaited : Awaited) → mid.awaited ≡ awaited → ¬ (IsOver mid.awaited)
         → IsTurnAt answers refuses endings size now awaited mid (skipped [])
         (record mid { awaited = Nothing stop.Writer })
@@ -477,23 +459,6 @@ module _ {H K : Type 0} (answers : H → Line → List Reply → Next → H → 
           (subst (λ n. TurnOutcome answers refuses kind n now mid said result new after) sized
           turn))
 
-      -- no step can be taken
-      pub then_waits : result ≡ false → said.state.buffer.is_broken ≡ false
-          → Converses answers refuses endings size now old out new after
-      then_waits is whole =
-          let t = moved false is in
-          subst (λ p. Converses answers refuses endings size now old out p after) (sym t.0)
-          (subst (λ o. Converses answers refuses endings size now old out mid o) (sym t.1) (record {
-            steps = going.steps;
-            turns = going.turns;
-            says = going.says;
-            rests = (going.request, inl t.3);
-            closed = inl t.2;
-            written = inr whole;
-            ended = going.ended;
-            failed = λ is. inl (going.failed is);
-          }))
-
       pub then_goes : result ≡ true → Going new after
       then_goes is =
           let t = moved true is in
@@ -509,9 +474,6 @@ module _ {H K : Type 0} (answers : H → Line → List Reply → Next → H → 
             ended = λ is. inr (sound (Nothing stop.EndOfInput) is).0;
             failed = λ is. absurd (sound (Nothing stop.Writer) is);
           }
-
-      pub then_smaller : result ≡ true → left_of new.awaited new.text < left_of mid.awaited mid.text
-      then_smaller is = (moved true is).4
 
 module _ {H K : Type 0} (answers : H → Line → List Reply → Next → H → Type 0)
     (refuses : H → LineError → List Reply → Next → H → Type 0) (talk : TalkState) (handler : H)
@@ -610,32 +572,29 @@ module _ {H K : Type 0} (answers : H → Line → List Reply → Next → H → 
       refl (turn asked (subst (λ a. Lacks endings size a start text) is lacks))
       (subst (λ rs. Says out rs said) (sym (append-nil gave)) says))
     where
+      told : (asked : Next) (what : Wanted) → Wants endings asked what
+          → MustRead what start size text
+          → IsTurn answers refuses endings size supply.Failed
+          (place_at (Input asked) handler start text) (rejected fault.Read gave)
+          (place_at (Nothing (stop.Reader fault.Read)) last start text)
+      told asked what wants must = (
+        then,
+        what,
+        inr (refl, λ _. inl tt),
+        request,
+        wants,
+        tells,
+        (text, [], sym (append-nil text), must, λ _. (refl, refl), λ is. absurd (unended is)),
+        refl,
+        refl,
+      )
+
       turn : (asked : Next) → Lacks endings size (Input asked) start text
           → IsTurn answers refuses endings size supply.Failed
           (place_at (Input asked) handler start text) (rejected fault.Read gave)
           (place_at (Nothing (stop.Reader fault.Read)) last start text)
-      turn next.Line must = (
-        then,
-        wanted.Line endings,
-        inr (refl, λ _. inl tt),
-        request,
-        refl,
-        tells,
-        (text, [], sym (append-nil text), must, λ _. (refl, refl), λ is. absurd (unended is)),
-        refl,
-        refl,
-      )
-      turn (next.Part n) must = (
-        then,
-        wanted.Part n,
-        inr (refl, λ _. inl tt),
-        request,
-        refl,
-        tells,
-        (text, [], sym (append-nil text), must, λ _. (refl, refl), λ is. absurd (unended is)),
-        refl,
-        refl,
-      )
+      turn next.Line must = told next.Line (wanted.Line endings) refl must
+      turn (next.Part n) must = told (next.Part n) (wanted.Part n) refl must
       turn next.Close must = absurd must
 
   -- the rest of a line that was rejected is not read over

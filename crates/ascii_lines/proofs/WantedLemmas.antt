@@ -1,17 +1,16 @@
 -- Whether what is wanted is among some bytes, and why it is not given.
-use Rattle.std.proofs.Common.{◌≡◌, ◌≢◌, [], ℕ, ◌+◌, ◌<◌, ◌≤◌, List, ◌++◌, Bool, length, take}
-use Rattle.std.proofs.Common.{arith, get_or, inl, inr, refl, subst, sym, ap, ◌∙◌}
+use Rattle.std.proofs.Common.{◌≡◌, ◌≢◌, ℕ, ◌+◌, ◌<◌, ◌≤◌, List, Bool, length, take}
+use Rattle.std.proofs.Common.{arith, get_or, inl, inr, subst, sym, ap, ◌∙◌}
 use Rattle.std.proofs.lemmas.Bool.{cases_lt}
 use Rattle.std.proofs.lemmas.List.{get_or-take, take_all}
 use Rattle.std.proofs.lemmas.Str.{IsAscii-take}
-use Rattle.std.proofs.lemmas.Str.Ascii.{IsAscii-nil}
 use Rattle.std.specs.Str.{IsAscii}
 use Rattle.ascii.specs.Bytes.{FirstOther}
 use Rattle.ascii.specs.Endings.{FreeUpTo}
-use Rattle.ascii.proofs.EndingsLemmas.{FreeUpTo-more, FreeUpTo-same, IsFirstStop-same}
+use Rattle.ascii.proofs.EndingsLemmas.{FreeUpTo-same, IsFirstStop-same}
 use Rattle.ascii_lines.specs.LineBuffer.{IsBarred, IsUsable, WindowState}
 use Rattle.ascii_lines.specs.Wanted.{EndsAt, IsSearched, LacksUpTo, MayFit, MayHave, MustRead}
-use Rattle.ascii_lines.specs.Wanted.{IsFar, IsOtherIn, IsOver, IsRefusal, Rejects, failures_after}
+use Rattle.ascii_lines.specs.Wanted.{IsFar, IsOtherIn, IsOver, IsRefusal, Rejects}
 use Rattle.ascii_lines.specs.declared.line_reader.LineError.{LineError}
 use Rattle.ascii_lines.specs.declared.line_reader.LineError.TheVariants as error
 use Rattle.ascii_lines.specs.declared.wanted.Wanted.{Wanted}

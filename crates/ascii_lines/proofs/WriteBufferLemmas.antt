@@ -1,7 +1,6 @@
 -- Bytes that were written through a buffer, one piece after another.
 use Rattle.std.proofs.Common.{◌≡◌, ℕ, List, [], ◌++◌, ap, sym, subst, ◌∙◌, append_assoc, append-nil}
-use Rattle.std.proofs.Common.{Err, Ok, OnErr, Result}
-use Rattle.std.proofs.Common.{Bool, true, false, ◌+◌, ◌-◌, ◌^◌, ◌<◌, arith}
+use Rattle.std.proofs.Common.{Err, Ok, OnErr, Result, Bool, true, false, ◌+◌, ◌-◌, ◌^◌, ◌<◌, arith}
 use Rattle.std.proofs.lemmas.Bool.{false≢true}
 use Rattle.std.proofs.KnownBytes.{Appends-trans}
 use Rattle.ascii_devices.specs.Buffered.{AppendsBy, AppendsBytes, FinishOutcome, OutputState}

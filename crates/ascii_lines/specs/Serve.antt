@@ -1,6 +1,6 @@
 -- What a server reads, what its handler replies, when, and why it stops.
-use Rattle.std.specs.Prelude.{◌≡◌, ◌≢◌, ◌⊎◌, ◌==◌, ℕ, List, [], ◌∷◌, ◌++◌, Bool, ⊤}
-use Rattle.std.specs.Prelude.{Err, IfSome, Ok, OnOk, Result, false, length, true}
+use Rattle.std.specs.Prelude.{◌≡◌, ◌≢◌, ◌⊎◌, ℕ, List, [], ◌∷◌, ◌++◌, Bool, ⊤}
+use Rattle.std.specs.Prelude.{IfSome, OnOk, Result, false, true}
 use Rattle.std.specs.Io.KnownBytes.{Appends, IsAtEnd}
 use Rattle.std.specs.List.{flat_map}
 use Rattle.ascii.specs.Lines.{Line, LinesEndedBy}

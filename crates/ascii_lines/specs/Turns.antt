@@ -1,10 +1,9 @@
 -- The steps of a conversation: what a handler makes of bytes, one after another, whatever they come
 -- from.
 use Rattle.std.specs.Prelude.{◌≡◌, ◌≢◌, ◌⊎◌, ℕ, ◌+◌, ◌*◌, ◌-◌, ◌^◌, ◌<◌, ◌≤◌, List, [], ◌∷◌, ◌++◌}
-use Rattle.std.specs.Prelude.{Bool, Err, None, Ok, Some, drop, false, length, take, true, ⊤}
+use Rattle.std.specs.Prelude.{Bool, None, Some, drop, false, length, take, true, ⊤}
 use Rattle.std.specs.declared.option.Option.{Option}
-use Rattle.std.specs.declared.result.Result.{Result}
-use Rattle.ascii.specs.Endings.{IsFirstStop, any_text}
+use Rattle.ascii.specs.Endings.{FreeUpTo, IsFirstStop, any_text}
 use Rattle.ascii.specs.Lines.{Line}
 use Rattle.ascii.specs.declared.iter.spans.Endings.{Endings}
 use Rattle.ascii_lines.specs.Exchanges.{said_in}
@@ -12,7 +11,7 @@ use Rattle.ascii_lines.specs.LineBuffer.{WindowState}
 use Rattle.ascii_lines.specs.Replies.{IsInputOf, IsRequest, Reply, Says, Saying, Step}
 use Rattle.ascii_lines.specs.Replies.{at_end_before, rejected, skipped, took}
 use Rattle.ascii_lines.specs.Skipping.{HasNoEnd, IsCleanCut, IsFinal, WhyNotSkipped}
-use Rattle.ascii_lines.specs.Wanted.{EndsAt, IsOne, MayBeLast, MayHave, MustRead, Rejects}
+use Rattle.ascii_lines.specs.Wanted.{EndsAt, MayBeLast, MustRead, Rejects}
 use Rattle.ascii_lines.specs.declared.conversation.Awaited.{Awaited}
 use Rattle.ascii_lines.specs.declared.conversation.Awaited.TheVariants.{Input, LineEnd, Nothing}
 use Rattle.ascii_lines.specs.declared.conversation.Supply.{Supply}
@@ -87,9 +86,10 @@ GoesTo asked error then after =
 abbrev pub SkipsTo : Supply → Endings → Next → ℕ → List ℕ → List ℕ → Awaited → Type 0
 SkipsTo now endings then start bytes left after =
     ((after ≡ awaited_by then) × IsFirstStop endings bytes (length bytes))
-    ⊎ ((after ≡ LineEnd then) × HasNoEnd endings bytes × IsCleanCut endings bytes left)
-    ⊎ ((after ≡ Nothing stop.EndOfInput) × (now ≡ supply.Ended) × HasNoEnd endings bytes
-    × (left ≡ []))
+    ⊎ ((after ≡ LineEnd then) × FreeUpTo endings bytes (length bytes)
+    × IsCleanCut endings bytes left)
+    ⊎ ((after ≡ Nothing stop.EndOfInput) × (now ≡ supply.Ended)
+    × FreeUpTo endings bytes (length bytes) × (left ≡ []))
     ⊎ ((error : LineError) × (after ≡ Nothing (stop.Reader error))
     × (error ≡ Read → now ≡ supply.Failed)
     × WhyNotSkipped endings (2 ^ 64 - 1) start bytes left error)
@@ -145,7 +145,8 @@ abbrev pub Lacks : Endings → ℕ → Awaited → ℕ → List ℕ → Type 0
 Lacks endings size (Input next.Line) start text = MustRead (wanted.Line endings) start size text
 Lacks endings size (Input (next.Part n)) start text = MustRead (wanted.Part n) start size text
 Lacks endings size (LineEnd then) start text =
-    HasNoEnd (any_text endings) text × (length text ≤ 1) × (start + length text < 2 ^ 64)
+    FreeUpTo (any_text endings) text (length text) × (length text ≤ 1)
+    × (start + length text < 2 ^ 64)
 Lacks endings size awaited start text = ⊥
 
 -- a handler has asked for what is awaited: a line, or a part of one byte at least
@@ -227,6 +228,13 @@ fresh_talk size endings = record {
 abbrev pub supply_at : Bool → Supply
 supply_at true = supply.Ended
 supply_at false = supply.Open
+
+-- only where a conversation is has changed: not the size of its buffer, its endings, or whether a
+-- read of a device for it has returned no bytes
+pub record OnlyMoves (old new : TalkState) : Type 0 where
+  pub size : new.size ≡ old.size
+  pub endings : new.endings ≡ old.endings
+  pub at_end : new.is_at_end ≡ old.is_at_end
 
 -- why a conversation is over, if it is
 abbrev pub stop_of : Awaited → Option Stop

@@ -101,7 +101,7 @@ impl Conversation {
 impl<A: Allocator> Conversation<A> {
     ghost use Rattle.std.specs.Prelude.{false};
     ghost use Rattle.ascii_lines.specs.Serve.{ReadsOn};
-    ghost use Rattle.ascii_lines.specs.Turns.{Converses, place_of, place_with, stop_of, supply_at};
+    ghost use Rattle.ascii_lines.specs.Turns.{Converses, OnlyMoves, place_of, place_with, stop_of};
 
     /// Takes bytes that came, as many as there is room for, and carries out every step that they complete. Returns
     /// the number of bytes that were taken: at least one, unless there are none or the conversation is over.
@@ -132,9 +132,7 @@ impl<A: Allocator> Conversation<A> {
         ensures converses { Converses H.answers H.refuses self.old.endings self.old.size
             Supply.Open (place_with self.old handler.old (take result bytes.now)) replies.old
             (place_of self.new handler.new) replies.new }
-        ensures size { self.new.size ≡ self.old.size }
-        ensures endings { self.new.endings ≡ self.old.endings }
-        ensures at_end { self.new.is_at_end ≡ self.old.is_at_end }
+        ensures moves { OnlyMoves self.old self.new }
     {
         if self.is_closed() {
             return 0;
@@ -165,9 +163,7 @@ impl<A: Allocator> Conversation<A> {
         ensures converses { Converses H.answers H.refuses self.old.endings self.old.size
             Supply.Ended (place_of self.old handler.old) replies.old
             (place_of self.new handler.new) replies.new }
-        ensures size { self.new.size ≡ self.old.size }
-        ensures endings { self.new.endings ≡ self.old.endings }
-        ensures at_end { self.new.is_at_end ≡ self.old.is_at_end }
+        ensures moves { OnlyMoves self.old self.new }
     {
         let searched = self.dialogue.buffer.len();
         self.dialogue.converse(handler, replies, true, searched);
@@ -189,9 +185,7 @@ impl<A: Allocator> Conversation<A> {
         ensures converses { Converses H.answers H.refuses self.old.endings self.old.size
             Supply.Failed (place_of self.old handler.old) replies.old
             (place_of self.new handler.new) replies.new }
-        ensures size { self.new.size ≡ self.old.size }
-        ensures endings { self.new.endings ≡ self.old.endings }
-        ensures at_end { self.new.is_at_end ≡ self.old.is_at_end }
+        ensures moves { OnlyMoves self.old self.new }
     {
         self.dialogue.fail(handler, replies);
     }
@@ -206,9 +200,7 @@ impl<A: Allocator> Conversation<A> {
             (supply_at self.old.is_at_end)
             (place_of (record self.old { awaited = Awaited.Input Next.Line }) handler.old)
             replies.old (place_of self.new handler.new) replies.new }
-        ensures size { self.new.size ≡ self.old.size }
-        ensures endings { self.new.endings ≡ self.old.endings }
-        ensures at_end { self.new.is_at_end ≡ self.old.is_at_end }
+        ensures moves { OnlyMoves self.old self.new }
     {
         self.dialogue.awaited = Awaited::Input(Next::Line);
         let is_ended = self.dialogue.buffer.is_at_end();

@@ -1,7 +1,6 @@
-use Rattle.std.proofs.Common.{Some, arith, rules, ◌≡◌}
+use Rattle.std.proofs.Common.{Some, arith, rules, ◌≡◌, ◌≢◌, subst, ◌^◌, ◌-◌}
 use Rattle.ascii_lines.specs.declared.skipping.PassEnd.TheVariants as end
 use Rattle.ascii_lines.specs.Skipping.{TakesPart}
-use Rattle.std.proofs.Common.{◌≢◌, subst, ◌^◌, ◌-◌}
 use Rattle.ascii_lines.specs.Turns.{supply_at}
 use Rattle.ascii_lines.proofs.TurnsLemmas.{skips_end, skips_on}
 use Rattle.ascii_lines.proofs.conversation.skip_in.Goals as goal

@@ -1,7 +1,6 @@
-use Rattle.std.proofs.Common.{Err, None, Ok, Some, ap, refl, subst, sym, ◌∙◌, ◌≡◌, arith}
+use Rattle.std.proofs.Common.{ap, refl, subst, sym, ◌∙◌, arith}
 use Rattle.ascii_lines.specs.Serve.{ReadsOn, SendsOut, Serves, saying_of}
 use Rattle.ascii_lines.specs.Turns.{IsOver, TalkState, stop_of}
-use Rattle.ascii_lines.specs.declared.conversation.Awaited.TheVariants.{Nothing}
 use Rattle.ascii_lines.specs.declared.serving.Stop.TheVariants as stop
 use Rattle.ascii_lines.proofs.ExchangeLemmas.{replied_to_all}
 use Rattle.ascii_lines.proofs.ServeLemmas.{reads_smaller, serves_all, serves_unsent, so_far-read}
@@ -19,8 +18,7 @@ returns-in-Err-clause-serves g c =
       ending = c.flush.new.self.state.ending;
     })
     c.reads.handler) (sym c.flush.ensures.talk)
-    (serves_unsent g.H.Handler.answers g.H.Handler.refuses c.args.lines.now.state
-    c.args.handler.now c.reads.lines.state c.reads.handler c.reads.invariant mid new refl refl
+    (serves_unsent _ _ _ _ _ _ c.reads.invariant mid new refl refl
     c.position-start.ensures.end c.in-Err.field-0
     (subst (λ r. SendsOut mid r new) c.in-Err.is c.flush.ensures.sends))
 
@@ -35,8 +33,7 @@ returns-in-Some-clause-serves g c =
       ending = c.flush.new.self.state.ending;
     })
     c.reads.handler) (sym c.flush.ensures.talk)
-    (serves_all g.H.Handler.answers g.H.Handler.refuses c.args.lines.now.state
-    c.args.handler.now c.reads.lines.state c.reads.handler c.reads.invariant mid new refl refl
+    (serves_all _ _ _ _ _ _ c.reads.invariant mid new refl refl
     c.position-start.ensures.end c.in-Ok.field-0
     (subst (λ r. SendsOut mid r new) c.in-Ok.is c.flush.ensures.sends) c.in-Some.stop
     (stop_is c.reads.lines.state.talk.awaited c.in-Some.stop
@@ -56,8 +53,7 @@ reads-smaller g c =
     c.reads.lines.state.talk.awaited
     (sym (ap (λ (t : TalkState). stop_of t.awaited) c.flush.ensures.talk)
     ∙ (sym c.stop.ensures ∙ c.in_default.is)) in
-    reads_smaller g.H.Handler.answers g.H.Handler.refuses c.args.lines.now.state
-    c.args.handler.now c.reads.lines.state c.reads.handler c.reads.invariant mid new refl refl
+    reads_smaller _ _ _ _ _ _ c.reads.invariant mid new refl refl
     c.position-start.ensures.end c.in-Ok.field-0
     (subst (λ r. SendsOut mid r new) c.in-Ok.is c.flush.ensures.sends) apart
     (saying_of c.read.new.self) c.read.new.self.state.talk c.read.new.handler
@@ -74,8 +70,7 @@ reads-preserved g c =
     c.reads.lines.state.talk.awaited
     (sym (ap (λ (t : TalkState). stop_of t.awaited) c.flush.ensures.talk)
     ∙ (sym c.stop.ensures ∙ c.in_default.is)) in
-    so_far-read g.H.Handler.answers g.H.Handler.refuses c.args.lines.now.state
-    c.args.handler.now c.reads.lines.state c.reads.handler c.reads.invariant mid new refl refl
+    so_far-read _ _ _ _ _ _ c.reads.invariant mid new refl refl
     c.position-start.ensures.end c.in-Ok.field-0
     (subst (λ r. SendsOut mid r new) c.in-Ok.is c.flush.ensures.sends) apart
     (saying_of c.read.new.self) c.read.new.self.state.talk c.read.new.handler

@@ -1,6 +1,6 @@
 use Rattle.std.proofs.Common.{arith, length, subst}
 use Rattle.ascii_lines.specs.Wanted.{IsRefusal}
-use Rattle.ascii_lines.proofs.TakesLemmas.{err_looks, find_ends, find_last, look_waits, looked_for}
+use Rattle.ascii_lines.proofs.TakesLemmas.{err_looks, find_ends, looked_for}
 use Rattle.ascii_lines.proofs.TakesLemmas.{refusal_looks, unfit_looks}
 use Rattle.ascii_lines.proofs.wanted.look.Goals as goal
 

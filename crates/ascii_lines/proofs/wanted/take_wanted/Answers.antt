@@ -1,6 +1,5 @@
-use Rattle.std.proofs.Common.{◌≡◌, ◌≤◌, ◌++◌, ℕ, Bool, ap, arith, false, inl, inr, length}
-use Rattle.std.proofs.Common.{length-append}
-use Rattle.std.proofs.Common.{None, Ok, Option, Some, refl, subst, sym, take, ◌∙◌}
+use Rattle.std.proofs.Common.{◌≡◌, ◌++◌, ℕ, Bool, ap, arith, false, inl, inr, length}
+use Rattle.std.proofs.Common.{length-append, None, Ok, Option, Some, refl, subst, sym, take, ◌∙◌}
 use Rattle.std.proofs.Math.Seq.{take-append_seam}
 use Rattle.ascii_devices.specs.States.{source_state}
 use Rattle.ascii_lines.specs.Failures.{one_more}

@@ -17,7 +17,7 @@ returns g c = λ is.
     feed_joins g.H.Handler.answers g.H.Handler.refuses c.args.talk.now c.feed-n.new.self
     c.feed-m.new.self c.args.handler.now c.feed-n.new.handler c.feed-m.new.handler
     c.args.replies.now c.feed-n.new.replies c.feed-m.new.replies first second
-    c.feed-n.ensures.endings c.feed-n.ensures.size
+    c.feed-n.ensures.moves.endings c.feed-n.ensures.moves.size
     (subst (λ xs. Converses g.H.Handler.answers g.H.Handler.refuses c.args.talk.now.endings
     c.args.talk.now.size supply.Open (place_with c.args.talk.now c.args.handler.now xs)
     c.args.replies.now (place_of c.feed-n.new.self c.feed-n.new.handler) c.feed-n.new.replies)

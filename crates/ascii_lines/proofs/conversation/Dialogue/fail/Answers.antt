@@ -1,8 +1,7 @@
-use Rattle.std.proofs.Common.{inl, inr, refl, rules, ◌≡◌, true}
+use Rattle.std.proofs.Common.{rules}
 use Rattle.ascii_lines.specs.Turns.{IsOver}
 use Rattle.ascii_lines.proofs.TurnsLemmas.{Going-first, fail_asked, fail_line, fail_over}
-use Rattle.ascii_lines.proofs.TurnsLemmas.{rests_lacks}
-use Rattle.ascii_lines.proofs.TurnsLemmas.{then_breaks}
+use Rattle.ascii_lines.proofs.TurnsLemmas.{rests_lacks, then_breaks}
 use Rattle.ascii_lines.proofs.conversation.Dialogue.fail.Goals as goal
 
 pub returns-then-is_over-clause-converses : goal.returns-then-is_over-clause-converses

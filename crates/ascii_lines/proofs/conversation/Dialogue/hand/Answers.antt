@@ -1,9 +1,8 @@
-use Rattle.std.proofs.Common.{refl, subst, sym}
+use Rattle.std.proofs.Common.{refl, subst, sym, true}
 use Rattle.ascii_lines.specs.LineReader.{read_line_in}
 use Rattle.ascii_lines.specs.Replies.{IsInputOf}
 use Rattle.ascii_lines.specs.Turns.{TurnOutcome, place_at, supply_at}
 use Rattle.ascii_lines.specs.declared.conversation.Awaited.TheVariants.{Input}
-use Rattle.std.proofs.Common.{true}
 use Rattle.ascii_lines.proofs.TurnsLemmas.{turn_takes}
 use Rattle.ascii_lines.proofs.conversation.Dialogue.hand.Goals as goal
 
