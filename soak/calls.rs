@@ -176,7 +176,7 @@ calls! {
     fn ask_round_trips(source: &[u8]);
     fn ask_written(source: &[u8], piece: &[u8]);
     fn ask_character_written(number: u32, source: &[u8]);
-    fn ask_collected(code: u8, source: &[u8]);
+    fn ask_collected(code: u8, source: &[u8], first: &[u8]);
     fn ask_split_off(at: usize, source: &[u8]);
     fn ask_copies(source: &[u8]);
     fn ask_turned(source: &[u8]);

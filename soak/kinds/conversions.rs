@@ -17,7 +17,7 @@ pub static KINDS: &[Kind] = &[
     }),
     allocating("collected texts", |random, asked| {
         let text = random.text();
-        ask_collected(random.code_of(&text), &text, asked);
+        ask_collected(random.code_of(&text), &text, &random.text(), asked);
     }),
     allocating("strings cut in two", |random, asked| {
         let text = random.text();
@@ -89,26 +89,35 @@ pub fn ask_character_written(ch: char, text: &[u8], asked: &mut Asked) {
 }
 
 /// The pieces at a character collected, and then the lines appended.
-pub fn ask_collected(code: u8, text: &[u8], asked: &mut Asked) {
-    calls::ask_collected(asked, code, text);
+pub fn ask_collected(code: u8, text: &[u8], first: &[u8], asked: &mut Asked) {
+    calls::ask_collected(asked, code, text, first);
     let want = &mut asked.want;
-    // Grows as a string does.
-    let mut string = Vec::new();
-    text.split(|other| *other == code).for_each(|piece| string.extend_from_slice(piece));
-    want.put(&string);
-    let (is_some, start, mut growths) = (!string.is_empty(), want.bytes.len(), Vec::new());
-    for line in super::walks::lines_of(text) {
-        if string.capacity() - string.len() < line.text.len() {
-            growths.push(string.len());
-        }
-        string.extend_from_slice(line.text);
-    }
+    let pieces: Vec<&[u8]> = text.split(|other| *other == code).collect();
+    let lines = super::walks::lines_of(text).into_iter().map(|line| line.text);
+    let (mut collected, mut string) = (Vec::new(), first.to_vec());
+    let growths = extend(&mut collected, pieces);
+    want.put(&collected);
+    growths.iter().for_each(|_| want.fails(Needs::Memory, 0, Failed));
+    let start = want.bytes.len();
+    let growths = extend(&mut string, lines);
     want.put((true, &string));
-    want.fails(Needs::memory_if(is_some), 0, Failed);
+    want.fails(Needs::memory_if(!first.is_empty()), start, Failed);
     // The lines before the one that does not fit have been appended.
     for length in growths {
         want.fails(Needs::Memory, start, (false, &string[..length]));
     }
+}
+
+/// Appends texts, each with room for it alone, as a string does; and returns the lengths at which it grew.
+fn extend<'a>(string: &mut Vec<u8>, texts: impl IntoIterator<Item = &'a [u8]>) -> Vec<usize> {
+    let mut growths = Vec::new();
+    for text in texts {
+        if string.capacity() - string.len() < text.len() {
+            growths.push(string.len());
+        }
+        string.extend_from_slice(text);
+    }
+    growths
 }
 
 pub fn ask_split_off(at: usize, text: &[u8], asked: &mut Asked) {

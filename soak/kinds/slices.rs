@@ -90,13 +90,13 @@ pub fn ask_parts(form: usize, a: usize, b: usize, source: &[u8], asked: &mut Ask
     asked.want.times(times + usize::from(ascii && bounds.is_some()), part_of(source, bounds));
 }
 
-/// A part that is changed to upper case, and whose first character is set, in a source whose other bytes are unchanged.
+/// A part that is changed to lower case, and whose first character is set, in a source whose other bytes are unchanged.
 pub fn ask_part_mut(form: usize, a: usize, b: usize, code: u8, mut source: Vec<u8>, asked: &mut Asked) {
     let mut want = source.clone();
     calls::ask_slice_mut(asked, form as u8, a, b, code, &mut source);
     let bounds = bounds(form, a, b, want.len());
     if let (Ok(_), Some((start, end))) = (part_of(&want, bounds), bounds) {
-        want[start..end].make_ascii_uppercase();
+        want[start..end].make_ascii_lowercase();
         want[start..end].iter_mut().take(1).for_each(|first| *first = code);
     }
     asked.want.put(part_of(&want, bounds));

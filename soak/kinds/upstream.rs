@@ -100,7 +100,7 @@ pub fn slice_mut(random: &mut Random, asked: &mut Asked) {
     calls::ask_slice_mut(asked, form as u8, a, b, code, &mut source);
     match sliced!(want[..], slice_ascii_mut, form, a, b) {
         Ok(part) => {
-            part.make_ascii_uppercase();
+            part.make_ascii_lowercase();
             if !part.is_empty() {
                 part[0] = char_of(code);
             }

@@ -323,10 +323,10 @@ fn many_commands(rows: &mut Rows) {
 /// Commands over an empty string with a capacity, and the capacity after each.
 fn reserved_and_shrunk(rows: &mut Rows) {
     let grown = commands_of(&[Push(b'x'), Reserve(10_000), Shrink]);
-    let mut cleared = commands_of(&[PushStr("aaaaaaaaaa"), Clear, PushStr("ab"), Reserve(100), Shrink]);
+    let mut cleared = commands_of(&[&[Push(b'a'); 10][..], &[Clear, PushStr("ab"), Reserve(100), Shrink]].concat());
     // An exact reservation.
     cleared.add(19, 3, 0);
-    for (capacity, cmds, after) in [(1, &grown, &[1, 10_001, 1][..]), (10, &cleared, &[10, 10, 10, 102, 2, 5])] {
+    for (capacity, cmds, after) in [(1, &grown, &[1, 10_001, 1][..]), (10, &cleared, &[10, 10, 10, 10, 10, 10, 10, 10, 10, 10, 10, 10, 102, 2, 5])] {
         rows.ask(|asked| {
             ask_capacities(capacity, cmds, asked);
             let modelled = std::mem::take(&mut asked.want.bytes);

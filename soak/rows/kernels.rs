@@ -119,14 +119,14 @@ fn changes(rows: &mut Rows) {
 }
 
 fn above_127(rows: &mut Rows) {
-    let mut text = [b'~'; 130];
+    let mut text = [127; 130];
     for length in 0..131 {
         for place in 0..length {
             for byte in 128..=255 {
                 text[place] = byte;
                 rows.ask(|asked| ask_kernels(&text[..length], asked));
             }
-            text[place] = b'~';
+            text[place] = 127;
         }
     }
 }

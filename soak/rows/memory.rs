@@ -47,7 +47,8 @@ pub static ROWS: &[Row] = &[
     ("runs_over_both_strings_go_on", both_runs),
 ];
 
-/// A text that is just short enough to be inline, and a longer one.
+/// Texts that are just short enough to be inline, and a longer one.
+const A24: &str = "aaaaaaaaaaaaaaaaaaaaaaaa";
 const FULL: &str = "abcdefghijklmnopqrstuvwx";
 const LONG: &str = "abcdefghijklmnopqrstuvwxabcdefghijklmnopqrstuvwx";
 
@@ -64,7 +65,7 @@ fn nothing(rows: &mut Rows) {
     rows.ask(|asked| ask_walks(b'a', b"", &[], asked));
     rows.ask(|asked| ask_extended(ONE, 0, b"", asked));
     rows.ask(|asked| ask_formatted(b"", b"", b"", asked));
-    rows.ask(|asked| ask_collected(b'a', b"", asked));
+    rows.ask(|asked| ask_collected(b'a', b"", b"", asked));
     rows.ask(|asked| ask_capacities(0, &empty, asked));
     rows.ask(|asked| ask_both_runs(b"", &none, asked));
     for is_small in [false, true] {
@@ -95,7 +96,7 @@ fn copies(rows: &mut Rows) {
 fn pieces(rows: &mut Rows) {
     rows.ask(|asked| ask_formatted(b"x", b"yy", &[b'a'; 20], asked));
     let lines = ["a".repeat(1), "b".repeat(20), "c".repeat(48), "d".repeat(300), "e".repeat(1_000)].join("\n");
-    rows.ask(|asked| ask_collected(b'x', lines.as_bytes(), asked));
+    rows.ask(|asked| ask_collected(b'x', lines.as_bytes(), b"", asked));
     let commands = commands_of(&[Push(b'x'), Reserve(100), Shrink, Push(b'z')]);
     rows.ask(|asked| ask_capacities(1, &commands, asked));
 }
@@ -109,7 +110,7 @@ static GROWING: [&[Cmd]; 3] = [
 
 fn commands_go_on(rows: &mut Rows) {
     for commands in GROWING.map(commands_of) {
-        for (is_small, text) in [(false, "x"), (false, ""), (false, LONG), (true, "x"), (true, FULL), (true, LONG)] {
+        for (is_small, text) in [(false, "x"), (false, ""), (false, LONG), (true, "x"), (true, FULL), (true, LONG), (true, A24)] {
             rows.ask(|asked| {
                 calls::ask_edits(asked, is_small, text.as_bytes(), &commands.texts, &commands.steps);
                 expect(is_small, text.as_bytes(), &commands, asked);
@@ -121,7 +122,7 @@ fn commands_go_on(rows: &mut Rows) {
 /// Steps over an inline string that is full, of which the first three need memory. The allocations before those are
 /// for the commands and for the replies.
 fn after_several_failures(rows: &mut Rows) {
-    let text = "a".repeat(24);
+    let text = A24;
     let commands = [InsertStr(0, "b"), Copy(Range::To(1)), Reserve(100), Shrink, Truncate(2), PushStr("c")];
     let commands = commands_of(&commands);
     let (no, done) = ("memory", "done");

@@ -1,6 +1,6 @@
 //! Strings: their hashes, and what an inline string is.
 
-use super::commands::{self, Cmd, Reply};
+use super::commands::{self, Cmd, Cmd::*, Reply};
 use super::{Row, Rows};
 use crate::asked::{items_of, Item};
 use crate::calls::{self, Step};
@@ -101,30 +101,42 @@ fn written(rows: &mut Rows) {
 
 /// A text, a command over it, its reply, and the text after it.
 static SINGLE_EDITS: [(&str, Cmd, Reply, &str); 8] = [
-    ("", Cmd::Push(b'x'), Reply::Done, "x"),
-    ("x", Cmd::Pop, Reply::Char(Some(b'x')), ""),
-    ("foo", Cmd::Remove(0), Reply::Char(Some(b'f')), "oo"),
-    ("oo", Cmd::Remove(1), Reply::Char(Some(b'o')), "o"),
-    ("o", Cmd::Remove(0), Reply::Char(Some(b'o')), ""),
-    ("foo", Cmd::Insert(2, b'b'), Reply::Done, "fobo"),
-    ("hello", Cmd::Truncate(2), Reply::Done, "he"),
-    ("hello world\0", Cmd::Set(0, b'H'), Reply::Done, "Hello world\0"),
+    ("", Push(b'x'), Reply::Done, "x"),
+    ("x", Pop, Reply::Char(Some(b'x')), ""),
+    ("foo", Remove(0), Reply::Char(Some(b'f')), "oo"),
+    ("oo", Remove(1), Reply::Char(Some(b'o')), "o"),
+    ("o", Remove(0), Reply::Char(Some(b'o')), ""),
+    ("foo", Insert(2, b'b'), Reply::Done, "fobo"),
+    ("hello", Truncate(2), Reply::Done, "he"),
+    ("hello world\0", Set(0, b'H'), Reply::Done, "Hello world\0"),
 ];
 
 fn collected(rows: &mut Rows) {
+    rows.ask(|asked| {
+        calls::ask_collected(asked, b'\n', b"one\ntwo\nthree", b"abcabc");
+        asked.want.put(("onetwothree", true, "abcabconetwothree"));
+        asked.want.has_other_failures = true;
+    });
     for (text, code) in [("abc", b','), ("a,b,,c", b','), ("one\ntwo\nthree", b' '), ("ASCII Ascii ascii", b' '), ("", b',')] {
-        rows.ask(|asked| ask_collected(code, text.as_bytes(), asked));
+        rows.ask(|asked| ask_collected(code, text.as_bytes(), b"abc", asked));
     }
+    let pieces = [PushStr("ASCII"), PushStr("ASCII"), PushStr("ASCII"), Push(b'\n')];
+    commands::ask(rows, "abcabconetwothree", &pieces, &[Reply::Done; 4], "abcabconetwothreeASCIIASCIIASCII\n");
 }
 
-/// Texts of `a` of 0, 1, 33 and 5,000 codes: each call that allocates for them returns them.
+/// Texts of `a` of 0, 1, 33 and 5,000 codes, and 4,000 pieces, words and lines: each call that allocates for them returns them.
 fn long_texts(rows: &mut Rows) {
+    for (text, code) in [("abcd,", b','), ("word ", b' '), ("abc\r\n", b'a')].map(|(item, code)| (item.repeat(4_000), code)) {
+        rows.ask(|asked| ask_copies(text.as_bytes(), asked));
+        rows.ask(|asked| ask_collected(code, text.as_bytes(), text.as_bytes(), asked));
+        rows.ask(|asked| ask_walks(code, text.as_bytes(), &vec![0; 4_001], asked));
+    }
     for length in [0, 1, 33, 5_000] {
         let text = vec![b'a'; length];
         rows.ask(|asked| ask_all(&text, asked));
         rows.ask(|asked| ask_round_trips(&text, asked));
         rows.ask(|asked| ask_cases(&text, asked));
-        rows.ask(|asked| ask_collected(b',', &text, asked));
+        rows.ask(|asked| ask_collected(b',', &text, &text, asked));
         rows.ask(|asked| ask_json(&text, asked));
         rows.ask(|asked| ask_split(b'a', &text, &vec![0; length.min(1_000)], asked));
         rows.ask(|asked| ask_lines(&text, &vec![0; length], asked));

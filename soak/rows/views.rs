@@ -206,8 +206,8 @@ fn part_mut(rows: &mut Rows) {
     rows.ask(|asked| {
         let mut source = SOURCE;
         calls::ask_slice_mut(asked, FROM as u8, 3, 0, b'Z', &mut source);
-        asked.want.put("ZB");
-        asked.compare(&source, &[0x61, 0xc4, 0x8d, 0x5a, 0x42]);
+        asked.want.put("Zb");
+        asked.compare(&source, &[0x61, 0xc4, 0x8d, 0x5a, 0x62]);
     });
     for (form, start, end) in [(TO, 0, 1), (RANGE, 3, 4), (RANGE, 4, 4), (INCLUSIVE, 3, 4), (FROM, 5, 0)] {
         rows.ask(|asked| ask_part_mut(form, start, end, b'z', SOURCE.to_vec(), asked));

@@ -105,11 +105,17 @@ pub fn ask_character_written(alloc: Global, number: u32, source: AsciiStr, answe
     }
 }
 
-/// The pieces at a character collected into one string, and then the lines appended to it.
-pub fn ask_collected(alloc: Global, on: AsciiChar, source: AsciiStr, answer: &mut Answer) {
-    match AsciiString::collect_strs(alloc, source.split(on)) {
+/// The pieces at a character collected into one string; and whether the lines are appended to another text, and it then.
+pub fn ask_collected(
+    alloc: Global,
+    on: AsciiChar,
+    source: AsciiStr,
+    first: AsciiStr,
+    answer: &mut Answer,
+) {
+    answer.put_result(AsciiString::collect_strs(alloc, source.split(on)));
+    match first.to_ascii_string(alloc) {
         Ok(mut string) => {
-            answer.put(string.as_ascii_str());
             answer.put((string.extend_strs(source.lines()).is_ok(), string));
         }
         Err(error) => answer.put(error),

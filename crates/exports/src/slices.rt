@@ -92,7 +92,7 @@ pub fn ask_slices(form: u8, start: usize, end: usize, source: &[u8], answer: &mu
     }
 }
 
-/// Changes the part of a source in a range to upper case, and sets its first character; and returns
+/// Changes the part of a source in a range to lower case, and sets its first character; and returns
 /// that part.
 pub fn ask_slice_mut(
     form: u8,
@@ -104,7 +104,7 @@ pub fn ask_slice_mut(
 ) {
     match bytes::slice_ascii_mut(source, range_of(form, start, end)) {
         Ok(mut part) => {
-            part.make_ascii_uppercase();
+            part.make_ascii_lowercase();
             if 0 < part.as_ascii_str().len() {
                 part.set(0, first);
             }
