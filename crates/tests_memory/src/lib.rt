@@ -1,4 +1,4 @@
-//! Tests of calls whose allocations fail, in a crate of their own, since each is proved before it runs.
+//! Tests of long inputs, in a crate of their own, since each is proved before it runs.
 #![tactic(auto)]
 
 #[cfg(test)]

@@ -1,12 +1,7 @@
-//! Each allocation of an edit fails in turn, over an allocator of the tests, and what the edit then returns and leaves is
-//! compared. If none fails, no call gives up past a length: `enough_memory` and the modules `long_..` have inputs that
-//! nobody would call short, and what a call has to return is counted or written out by a plain loop.
+//! If no allocation fails, no call gives up past a length: `enough_memory` and the modules `long_..` have inputs that nobody
+//! would call short, and what a call has to return is counted or written out by a plain loop.
 
-mod each_allocation;
 mod enough_memory;
-mod every_buffer;
-mod fail_nth;
-mod long_callers;
 mod long_lines;
 mod long_maps;
 mod long_recipes;
