@@ -5,6 +5,7 @@ A page has a table between a line that says that it is made and a line that ends
   <!-- Made by `bin/docs tables`: sizes -->         the lines of each crate: code, definitions, proofs and tests
   <!-- Made by `bin/docs tables`: times -->         what the dearest tasks of `bin/test` take, from tools/check/times.txt
   <!-- Made by `bin/docs tables`: evidence -->      how many mutations and questions there are, and the answers of soak/answers.txt
+  <!-- Made by `bin/docs tables`: said CALL -->      what is proved of a call, in words
   <!-- end of the table -->
 A signpost is a paragraph at the head of a source that begins with "Made by `bin/docs tables`: the other calls of `TYPE` are in": it
 names the modules that have calls of that type, each with its calls.
@@ -16,14 +17,17 @@ import textwrap
 from functools import cache
 
 import age
+import reference_text
+import sentences
 import times
 from calls import entries, headings, table
 from made import LIBRARIES, TOP, example, first_sentence, head_lines, module_file, modules_of, settle
+from owners import owners
 from sources import CRATES, read
 
 # A task that takes fewer CPU seconds has no row of its own.
 DEAR = 60
-BLOCK = re.compile(r"(<!-- Made by `bin/docs tables`: (\w+)(?: (\w+))? -->\n).*?(<!-- end of the table -->)", re.S)
+BLOCK = re.compile(r"(<!-- Made by `bin/docs tables`: (\w+)(?: ([\w:]+))? -->\n).*?(<!-- end of the table -->)", re.S)
 SIGNPOST = re.compile(r"^//! Made by `bin/docs tables`: the other calls of `(\w+)` are in.*\n(?://! .+\n)*", re.M)
 
 
@@ -100,7 +104,15 @@ def evidence_table(_):
     return ["| What | Number |", "|---|--:|", *[f"| {what} | {int(number):,} |" for what, number in table]]
 
 
-TABLES = {"evidence": evidence_table, "calls": calls_table, "sizes": sizes_table, "times": times_table}
+def said_table(name):
+    """What is proved of a call, in words."""
+    call = next(it for it in rows() if it.key == name)
+    home = next(it for it in owners().values() if any(own.item is call.item for own in it.calls))
+    text = sentences.of_call(call.item.clauses).replace("\n\n- ", "\n- ").replace("\n", "\n  ")
+    return f"- **In the words of its clauses**, [`{name}`](reference/{reference_text.file_of(home)}#{call.name}). {text}".splitlines()
+
+
+TABLES = {"evidence": evidence_table, "calls": calls_table, "sizes": sizes_table, "times": times_table, "said": said_table}
 
 
 def page_with_tables(text):
