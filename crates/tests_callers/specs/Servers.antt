@@ -10,7 +10,7 @@ use Rattle.ascii_lines.specs.Exchanges.{TakesNothing, bytes_of, given_in, said_i
 use Rattle.ascii_lines.specs.Replies.{Reply, Step, line_reply, rejected, took}
 use Rattle.ascii_lines.specs.Serve.{ChannelState, Serves, Talk, first_place}
 use Rattle.ascii_lines.specs.Steps.{Explains}
-use Rattle.ascii_lines.specs.Turns.{Place, Turns}
+use Rattle.ascii_lines.specs.Turns.{IsTurn, Place, Turns, place_of}
 use Rattle.ascii_lines.specs.declared.conversation.Awaited.TheVariants.{Input}
 use Rattle.ascii_lines.specs.declared.line_reader.LineError.{LineError}
 use Rattle.ascii_lines.specs.declared.serving.Next.{Next}
@@ -99,8 +99,12 @@ module _ {H : Type 0} (answers : H → Line → List Reply → Next → H → Ty
           (old.talk.start + length (bytes_of before)) (bytes_of after ++ new.talk.held) error
       pub unended : (before : List Step) (input : Line) (said : List Reply) (after : List Step)
           → talk.steps ≡ before ++ took input said ∷ after
-          → (place : Place H)
+          → (place left : Place H)
           × Turns answers refuses old.talk.endings old.talk.size talk.now
           (first_place old handler (received_of talk.events)) before place
+          × IsTurn answers refuses old.talk.endings old.talk.size talk.now place
+          (took input said) left
+          × Turns answers refuses old.talk.endings old.talk.size talk.now left after
+          (place_of new.talk last)
           × (place.awaited ≡ Input next.Line → input.ending ≡ Absent
           → TakesNothing after × (new.talk.held ≡ []))

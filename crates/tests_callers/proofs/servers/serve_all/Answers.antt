@@ -27,7 +27,10 @@ returns g c =
           let (p, q, taken, turn, then) = Turns-split A R e n talk.now first last before _ after
           (subst (λ steps. Turns A R e n talk.now first steps last) is talk.turns) in (
             p,
+            q,
             taken,
+            turn,
+            then,
             λ line absent. unended_last A R e n talk.now p q last input said after line turn absent
                 then,
           );
