@@ -146,6 +146,7 @@ class Reference:
         """A call: its signature, documentation, contract, tests and mutations."""
         anchor = page.anchor(f"{prefix}{call.name}")
         docs, said = documentation(call)
+        docs = sentences.without_conditions(docs, call.item.clauses)
         if not prefix:
             is_module = owner.kind == "module"
             shown = f"{owner.path}::{call.name}" if is_module else f"{owner.name}::{call.name}"

@@ -167,6 +167,7 @@ def call_lines(call, owner):
     docs, _ = documentation(call)
     bounds = f"{call.item.head} {call.block.head if call.block else ''}"
     note_words([text for _, text in call.item.clauses], call.item.words, bounds)
+    docs = sentences.without_conditions(docs, call.item.clauses)
     code = block([re.sub(r"^pub ", "", call.item.head), *clause_lines(call.item.clauses)])
     return [f"### `{call.name}`", *said_lines(call), *code, *docs_lines(docs, owner, call.of_trait), *equal_lines(owner, call)]
 
@@ -303,7 +304,7 @@ def shortened(made):
     pages = {name: plain(text.replace("```rust", "").replace("```", "")) for name, text in made.items()}
     for owner in shown():
         for call in [*owner.calls, *(it for impl in owner.impls for it in impl.calls)]:
-            for text in "\n".join(call.item.docs).split("\n\n"):
+            for text in "\n".join(sentences.without_conditions(call.item.docs, call.item.clauses)).split("\n\n"):
                 if plain(text) not in pages[file_of(owner)]:
                     yield f"docs/reference/{file_of(owner)}: {call.key}: lacks `{plain(text)[:60]}`"
 

@@ -239,6 +239,13 @@ def of_call(clauses):
     return " ".join(paragraph(f"**{name}:**", " ".join(it)) for name, it in parts if it)
 
 
+def without_conditions(docs, clauses):
+    """The documentation of a call without its conditions, if `of_call` says them."""
+    if "**Condition:**" not in of_call(clauses):
+        return docs
+    return "\n\n".join(it for it in "\n".join(docs).split("\n\n") if not it.startswith("Condition")).split("\n")
+
+
 def paragraph(name, text):
     if len(text) > LONG:
         return "\n- ".join([f"{name}\n", *re.split(r"(?<=\.) (?=[A-Z`])", text)])
