@@ -21,6 +21,7 @@ import reference_text
 import sentences
 import times
 from calls import entries, headings, table
+from items import Wrong
 from made import LIBRARIES, TOP, example, first_sentence, head_lines, module_file, modules_of, settle
 from owners import owners
 from sources import CRATES, read
@@ -106,7 +107,9 @@ def evidence_table(_):
 
 def said_table(name):
     """What is proved of a call, in words."""
-    call = next(it for it in rows() if it.key == name)
+    call = next((it for it in rows() if it.key == name), None)
+    if call is None:
+        raise Wrong(f"no call {name}, which a page wants to say")
     home = next(it for it in owners().values() if any(own.item is call.item for own in it.calls))
     text = sentences.of_call(call.item.clauses).replace("\n\n- ", "\n- ").replace("\n", "\n  ")
     return f"- **In the words of its clauses**, [`{name}`](reference/{reference_text.file_of(home)}#{call.name}). {text}".splitlines()
