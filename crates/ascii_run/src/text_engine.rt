@@ -37,6 +37,9 @@ use std::alloc::Allocator;
 ///     let mut output = Output::new(Vec::new(alloc));
 ///     engine(alloc, Mode::Tac, &mut Input::new(b"x\ny\n".as_slice()), &mut output) // Ok(())
 ///     output.into_inner() // [121, 10, 120, 10]
+///     let mut quoted = Output::new(Vec::new(alloc));
+///     engine(alloc, Mode::Json, &mut Input::new(b" \"\t".as_slice()), &mut quoted) // Ok(())
+///     quoted.into_inner() // [34, 32, 92, 34, 92, 116, 34]
 pub fn engine<S: Source, K: Sink, A: Allocator + Copy>(
     alloc: A,
     mode: Mode<'_>,
