@@ -1,6 +1,7 @@
 //! `ascii` together with std and the toolchain's crates.
 
 mod beside;
+mod parsers;
 mod serialized;
 
 ghost use Rattle.std.specs.Prelude.{IsTrue};
