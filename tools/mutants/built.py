@@ -5,6 +5,7 @@ import os
 import re
 import subprocess
 import tempfile
+import threading
 from pathlib import Path
 
 import libraries
@@ -47,22 +48,30 @@ class Built:
 
 
 class Checks:
-    """Checks of a copy of a crate, each of which starts from what the build and the checks before proved."""
+    """Checks of a copy of a crate over the libraries below it, each of which starts from what the checks before proved, and from
+    what the build did if the crate is a library."""
 
-    def __init__(self, built, copy, scratch):
-        self.built, self.copy, self.seconds = built, copy, 0
+    def __init__(self, name, copy, scratch, built=None):
+        self.name, self.copy, self.seconds = name, copy, 0
         self.kept = Path(tempfile.mkdtemp(dir=scratch))
-        built.write_modules(self.kept)
+        if built:
+            built.write_modules(self.kept)
 
-    def check(self, names):
-        """What the check of these functions or modules says; of the whole crate, if none is named. Counts its CPU seconds."""
+    def check(self, names, most=None):
+        """What the check of these functions or modules says; of the whole crate, if none is named. Counts its CPU seconds. None
+        if it takes longer than `most` seconds."""
         uses, _ = libraries.listed()
-        words = libraries.words("check", self.built.name, "src/lib.rt", uses[self.built.name], uses)
+        root = next(it for it in ("src/lib.rt", "src/main.rt") if (self.copy / it).is_file())
+        words = libraries.words("check", self.name, root, uses[self.name], uses)
         words += ["--incremental", str(self.kept), *(it for name in names for it in ("--only", name))]
+        late = threading.Event()
         with subprocess.Popen(
             words, cwd=self.copy, text=True, stdin=subprocess.DEVNULL, stdout=subprocess.PIPE, stderr=subprocess.STDOUT, errors="replace",
         ) as started:  # fmt: skip
+            watch = threading.Timer(most or threading.TIMEOUT_MAX, lambda: (late.set(), started.kill()))
+            watch.start()
             said = started.stdout.read()
+            watch.cancel()
             _, started.returncode, used = os.wait4(started.pid, 0)
         self.seconds += used.ru_utime + used.ru_stime
-        return said
+        return None if late.is_set() else said

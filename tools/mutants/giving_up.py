@@ -11,6 +11,7 @@ from concurrent.futures import ThreadPoolExecutor
 from dataclasses import dataclass
 from pathlib import Path
 
+import libraries
 from mutation import Crate
 from operators import Mutant
 from planting import copied, narrow, run_tests
@@ -59,12 +60,12 @@ def listed(settings, only):
 
 def proofs(settings, scratch, bodies):
     """Asks the prover about all bodies, crate by crate. Returns the number of those that it does not accept."""
-    copy, wrong = copied(settings.root, scratch / "proofs", True), 0
+    copy, wrong = copied(settings.root, scratch / "proofs", False), 0
     bodies = [it for it in bodies if "by-hand" not in it.words]
     for name in dict.fromkeys(it.crate for it in bodies):
         crate = Crate(copy, name)
         mutants = [it.mutant(crate, n) for n, it in enumerate(bodies) if it.crate == name]
-        if not crate.begin():
+        if not crate.begin(scratch):
             print(f"mutants: {name} is not proved as it is", file=sys.stderr)
             sys.exit(70)
         placed = [m for m in mutants if m.function.in_trait or crate.has_proofs(m.function)]
@@ -73,7 +74,6 @@ def proofs(settings, scratch, bodies):
             one_each = list({id(m.function): m for m in placed}.values())
             crate.judge(one_each, True)
             placed = [m for m in placed if m not in one_each]
-        crate.write([], True)
         bad = [m for m in mutants if m.kind != "survived"]
         wrong += len(bad)
         print(f"{name}: {len(mutants) - len(bad)} of {len(mutants)} bodies are accepted by the prover", flush=True)
@@ -129,6 +129,7 @@ def run(settings, given):
     if given.list:
         print("\n".join(f"{it.crate} {it.file} {it.function}, {it.statement}: {it.test}" for it in bodies))
         return 0
+    libraries.ROOT = str(settings.root)
     with tempfile.TemporaryDirectory(prefix="giving-up-") as scratch:
         if not given.tests:
             wrong += proofs(settings, Path(scratch), bodies)

@@ -1,8 +1,8 @@
 """Tries mutants of crates, and counts how many the contracts reject. Changes the bodies of functions by operators, checks
-each changed body with `rt check`, and reports by crate and by operator how many the prover rejected, how many only a proof by
-hand rejected, how many did not compile, and which survived. The verdicts are kept in verdicts/CRATE.tsv: a run that was
-stopped can be continued, and after a change only the mutants of functions whose text changed are tried. After a change of a
-definition, remove the file. Status 1: a mutant survived that survivors.txt does not list."""
+each changed body over the libraries as `rt ci` or `rt lib` built them, and reports by crate and by operator how many the prover
+rejected, how many only a proof by hand rejected, how many did not compile, and which survived. The verdicts are kept in
+verdicts/CRATE.tsv: a run that was stopped can be continued, and after a change only the mutants of functions whose text changed
+are tried. After a change of a definition, remove the file. Status 1: a mutant survived that survivors.txt does not list."""
 import collections
 import re
 import sys
@@ -10,19 +10,20 @@ import tempfile
 import time
 from pathlib import Path
 
+import libraries
 from mutation import JUDGED, KINDS, Crate, in_turn
 from planting import copied
 from run import Run
 from verdicts import Verdicts
 
 
-def try_crate(settings, copy, name, given):
+def try_crate(settings, scratch, name, given):
     """Tries mutants of a crate until the time is over. Returns whether the crate is proved as it is."""
-    crate = Crate(copy, name, settings)
+    crate = Crate(scratch / "copy", name, settings)
     verdicts = Verdicts(crate, settings.data / "verdicts")
     end = time.monotonic() + 60 * given.minutes
     mutants = [m for m in matching(crate, given.only) if not verdicts.has(m)]
-    if not crate.begin():
+    if not crate.begin(scratch):
         print(f"mutants: {name} is not proved as it is", file=sys.stderr)
         return False
     run = Run(crate, verdicts, in_turn(mutants, given.seed), given.most)
@@ -31,8 +32,6 @@ def try_crate(settings, copy, name, given):
         there_was_one = run.beside()
         if time.monotonic() < end:
             there_was_one = run.in_place() or there_was_one
-    # The crates above it are checked over the crate as it is.
-    crate.write([], True)
     return True
 
 
@@ -126,13 +125,14 @@ def arguments(asks):
 
 
 def run(settings, given):
+    libraries.ROOT = str(settings.root)
     names = given.crates or settings.crates
     if given.list or given.by_hand:
         print_lists(settings, names, given)
         return 0
     if not given.report:
         with tempfile.TemporaryDirectory(prefix="mutants-") as scratch:
-            copy = copied(settings.root, Path(scratch) / "copy", True)
-            if not all([try_crate(settings, copy, name, given) for name in names]):
+            copied(settings.root, Path(scratch) / "copy", False)
+            if not all([try_crate(settings, Path(scratch), name, given) for name in names]):
                 return 70
     return 0 if report(settings, names) else 1

@@ -1,4 +1,5 @@
-"""Writes the mutants of a crate into a copy of the repository, and judges them by what `rt check` prints.
+"""Writes the mutants of a crate into a copy of the repository, and judges them by what the check prints, over the libraries as
+they are built.
 
 A mutant of a free function or of an inherent method is written after the function, under a name of its own, with the
 function's clauses and a copy of its proof files. So one check judges many, and no caller has to be proved again. A method of
@@ -8,8 +9,9 @@ import collections
 import random
 import re
 import shutil
-import subprocess
 
+import libraries
+from built import Built, Checks
 from devices import DeviceOperators
 from operators import Operators
 from functions import Names, functions_of
@@ -41,7 +43,7 @@ class Crate:
             if "tests" not in it.relative_to(self.folder).parts and it.name != "tests.rt"
         }
         self.functions = [f for file, text in self.sources.items() for f in functions_of(file, text)]
-        self.names, self.symbols, self.made = settings.names() if settings else Names(), {}, []
+        self.names, self.symbols, self.made, self.checks = settings.names() if settings else Names(), {}, [], None
         for it in copy.glob("crates/*/src/**/*.rt"):
             if not it.relative_to(copy / "crates").parts[0].startswith("tests_"):
                 self.names.read(it.read_text(encoding="utf-8"))
@@ -61,20 +63,15 @@ class Crate:
 
     # Which symbol of the prover a function has
 
-    def check(self, names, seconds):
-        """What `rt check` of these functions prints, or none if it takes longer."""
-        words = [it for name in names for it in ("--only", name)]
-        try:
-            return subprocess.run(
-                ["rt", "check", "--jobs", "1", *words], cwd=self.folder, text=True, stdin=subprocess.DEVNULL,
-                stdout=subprocess.PIPE, stderr=subprocess.STDOUT, timeout=seconds,
-            ).stdout  # fmt: skip
-        except subprocess.TimeoutExpired:
-            return None
-
-    def begin(self):
-        """Checks the crate as it is, and learns the symbols of its functions. Returns whether it is proved."""
-        said = self.check([], 7200) or ""
+    def begin(self, scratch):
+        """Learns the symbols of the functions: from the library as it is built and proved, or by a check. Returns whether the
+        crate is proved."""
+        built = Built(self.name) if libraries.are_built([self.name]) else None
+        self.checks = Checks(self.name, self.folder, scratch, built)
+        if built:
+            self.symbols = dict.fromkeys(built.symbols, "proved")
+            return True
+        said = self.checks.check([])
         self.symbols = dict(re.findall(rf"(?m)^fn ({self.name}::\S+): (.*)", said))
         return "logic=proved" in said
 
@@ -174,7 +171,7 @@ class Crate:
         while left:
             self.write(left, in_place)
             names = [self.symbol_of(m.function) if in_place else m.name for m in left]
-            said = self.check(names, MOST_SECONDS)
+            said = self.checks.check(names, MOST_SECONDS)
             if said and re.search(r"(?m)^(only=|rattle: no verdict)", said):
                 give_kinds(left, said, names)
                 return

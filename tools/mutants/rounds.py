@@ -119,7 +119,7 @@ def try_crate(settings, name, files, scratch, tell, is_chosen=lambda mutation: T
             mutations.append(placed(mutation, changes, crate))
         except ValueError as fault:
             tell(mutation, f"cannot be applied: {fault}")
-    checks = Checks(built, copy, scratch)
+    checks = Checks(name, copy, scratch, built)
 
     def check(chosen, whole=False):
         with planted(chosen, copy):
