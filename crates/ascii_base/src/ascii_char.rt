@@ -40,6 +40,7 @@ use std::hash::{Hash, Hasher};
 /// from those of US-ASCII: 2 is `SOX` (there STX), 14 is `SI` (there SO) and 15 is `SO` (there SI).
 ///
 ///     AsciiChar::A.as_byte() // 65
+///     AsciiChar::SOX.as_byte() // 2
 #[derive(Clone, Copy)]
 pub enum AsciiChar {
     Null = 0,
@@ -189,6 +190,7 @@ impl AsciiChar {
     /// Condition: `ch` is ASCII, from 0 to 127.
     ///
     ///     AsciiChar::new('!') // '!'
+    ///     AsciiChar::new('\x7f') // '\u{7f}'
     #[inline]
     pub fn new(ch: char) -> AsciiChar
         requires { ch < 128 }
@@ -202,6 +204,7 @@ impl AsciiChar {
     /// Condition: `ch` is ASCII, from 0 to 127.
     ///
     ///     AsciiChar::from_ascii_unchecked(0x61) // 'a'
+    ///     AsciiChar::from_ascii_unchecked(127) // '\u{7f}'
     #[inline]
     pub fn from_ascii_unchecked(ch: u8) -> AsciiChar
         requires { ch < 128 }
@@ -214,6 +217,7 @@ impl AsciiChar {
     /// byte.
     ///
     ///     AsciiChar::LineFeed.as_byte() // 10
+    ///     AsciiChar::DEL.as_byte() // 127
     #[inline]
     pub fn as_byte(self) -> u8
         ensures code { result ≡ code_of self }
@@ -225,6 +229,7 @@ impl AsciiChar {
     /// Returns the character as a `char`.
     ///
     ///     AsciiChar::Slash.as_char() // '/'
+    ///     AsciiChar::Null.as_char() // '\0'
     #[inline]
     pub fn as_char(self) -> char
         ensures code { result ≡ code_of self }
@@ -236,6 +241,7 @@ impl AsciiChar {
     /// Returns `true` if the character is a letter, `A` to `Z` or `a` to `z`.
     ///
     ///     AsciiChar::a.is_alphabetic() // true
+    ///     AsciiChar::UnderScore.is_alphabetic() // false
     #[inline]
     pub fn is_alphabetic(self) -> bool
         ensures { IsTrue result ↔ IsAlphabetic (code_of self) }
@@ -246,6 +252,7 @@ impl AsciiChar {
     /// Returns `true` if the character is a letter, `A` to `Z` or `a` to `z`.
     ///
     ///     AsciiChar::_7.is_ascii_alphabetic() // false
+    ///     AsciiChar::Z.is_ascii_alphabetic() // true
     #[inline]
     pub fn is_ascii_alphabetic(&self) -> bool
         ensures { IsTrue result ↔ IsAlphabetic (code_of self.now) }
@@ -297,6 +304,7 @@ impl AsciiChar {
     /// Returns `true` if the character is a decimal digit, `0` to `9`.
     ///
     ///     AsciiChar::_7.is_ascii_digit() // true
+    ///     AsciiChar::F.is_ascii_digit() // false
     #[inline]
     pub fn is_ascii_digit(&self) -> bool
         ensures { IsTrue result ↔ IsDigit (code_of self.now) }
@@ -307,6 +315,7 @@ impl AsciiChar {
     /// Returns `true` if the character is a letter or a decimal digit.
     ///
     ///     AsciiChar::UnderScore.is_alphanumeric() // false
+    ///     AsciiChar::_7.is_alphanumeric() // true
     #[inline]
     pub fn is_alphanumeric(self) -> bool
         ensures { IsTrue result ↔ IsAlphanumeric (code_of self) }
@@ -317,6 +326,7 @@ impl AsciiChar {
     /// Returns `true` if the character is a letter or a decimal digit.
     ///
     ///     AsciiChar::_7.is_ascii_alphanumeric() // true
+    ///     AsciiChar::Minus.is_ascii_alphanumeric() // false
     #[inline]
     pub fn is_ascii_alphanumeric(&self) -> bool
         ensures { IsTrue result ↔ IsAlphanumeric (code_of self.now) }
@@ -339,6 +349,7 @@ impl AsciiChar {
     /// carriage return.
     ///
     ///     AsciiChar::VT.is_whitespace() // true
+    ///     AsciiChar::VT.is_ascii_whitespace() // false
     #[inline]
     pub fn is_whitespace(self) -> bool
         ensures { IsTrue result ↔ IsWhitespace (code_of self) }
@@ -350,6 +361,7 @@ impl AsciiChar {
     /// not vertical tab.
     ///
     ///     AsciiChar::VT.is_ascii_whitespace() // false
+    ///     AsciiChar::FF.is_ascii_whitespace() // true
     #[inline]
     pub fn is_ascii_whitespace(&self) -> bool
         ensures { IsTrue result ↔ IsAsciiWhitespace (code_of self.now) }
@@ -360,6 +372,7 @@ impl AsciiChar {
     /// Returns `true` if the character is a control character, 0 to 31 or 127.
     ///
     ///     AsciiChar::DEL.is_ascii_control() // true
+    ///     AsciiChar::Space.is_ascii_control() // false
     #[inline]
     pub fn is_ascii_control(&self) -> bool
         ensures { IsTrue result ↔ IsControl (code_of self.now) }
@@ -370,6 +383,7 @@ impl AsciiChar {
     /// Returns `true` if the character is visible (graphic): neither a control character nor space.
     ///
     ///     AsciiChar::Space.is_ascii_graphic() // false
+    ///     AsciiChar::Tilde.is_ascii_graphic() // true
     #[inline]
     pub fn is_ascii_graphic(&self) -> bool
         ensures { IsTrue result ↔ IsGraphic (code_of self.now) }
@@ -380,6 +394,7 @@ impl AsciiChar {
     /// Returns `true` if the character is visible (graphic) or space: not a control character.
     ///
     ///     AsciiChar::Space.is_ascii_printable() // true
+    ///     AsciiChar::Tab.is_ascii_printable() // false
     #[inline]
     pub fn is_ascii_printable(&self) -> bool
         ensures { IsTrue result ↔ IsPrintable (code_of self.now) }
@@ -390,6 +405,7 @@ impl AsciiChar {
     /// Returns `true` if the character is a lowercase letter, `a` to `z`.
     ///
     ///     AsciiChar::a.is_lowercase() // true
+    ///     AsciiChar::A.is_lowercase() // false
     #[inline]
     pub fn is_lowercase(self) -> bool
         ensures { IsTrue result ↔ IsLowercase (code_of self) }
@@ -400,6 +416,7 @@ impl AsciiChar {
     /// Returns `true` if the character is a lowercase letter, `a` to `z`.
     ///
     ///     AsciiChar::A.is_ascii_lowercase() // false
+    ///     AsciiChar::z.is_ascii_lowercase() // true
     #[inline]
     pub fn is_ascii_lowercase(&self) -> bool
         ensures { IsTrue result ↔ IsLowercase (code_of self.now) }
@@ -410,6 +427,7 @@ impl AsciiChar {
     /// Returns `true` if the character is an uppercase letter, `A` to `Z`.
     ///
     ///     AsciiChar::A.is_uppercase() // true
+    ///     AsciiChar::a.is_uppercase() // false
     #[inline]
     pub fn is_uppercase(self) -> bool
         ensures { IsTrue result ↔ IsUppercase (code_of self) }
@@ -420,6 +438,7 @@ impl AsciiChar {
     /// Returns `true` if the character is an uppercase letter, `A` to `Z`.
     ///
     ///     AsciiChar::_7.is_ascii_uppercase() // false
+    ///     AsciiChar::Z.is_ascii_uppercase() // true
     #[inline]
     pub fn is_ascii_uppercase(&self) -> bool
         ensures { IsTrue result ↔ IsUppercase (code_of self.now) }
@@ -430,6 +449,7 @@ impl AsciiChar {
     /// Returns `true` if the character is visible (graphic) and neither a letter nor a digit.
     ///
     ///     AsciiChar::Dollar.is_ascii_punctuation() // true
+    ///     AsciiChar::Space.is_ascii_punctuation() // false
     #[inline]
     pub fn is_ascii_punctuation(&self) -> bool
         ensures { IsTrue result ↔ IsPunctuation (code_of self.now) }
@@ -440,6 +460,7 @@ impl AsciiChar {
     /// Returns `true` if the character is a hexadecimal digit, in either case.
     ///
     ///     AsciiChar::F.is_ascii_hexdigit() // true
+    ///     AsciiChar::G.is_ascii_hexdigit() // false
     #[inline]
     pub fn is_ascii_hexdigit(&self) -> bool
         ensures { IsTrue result ↔ IsHexdigit (code_of self.now) }
@@ -465,9 +486,9 @@ impl AsciiChar {
 
     /// Changes a letter `a` to `z` to `A` to `Z`. Every other character is unchanged.
     ///
-    ///     let mut ch = AsciiChar::a;
-    ///     ch.make_ascii_uppercase();
-    ///     ch // 'A'
+    ///     let mut chars = [AsciiChar::a, AsciiChar::_7];
+    ///     chars.iter_mut().for_each(|ch| ch.make_ascii_uppercase());
+    ///     chars // ['A', '7']
     #[inline]
     pub fn make_ascii_uppercase(&mut self)
         ensures { code_of self.new ≡ upper_image (code_of self.old) }
@@ -477,9 +498,9 @@ impl AsciiChar {
 
     /// Changes a letter `A` to `Z` to `a` to `z`. Every other character is unchanged.
     ///
-    ///     let mut ch = AsciiChar::A;
-    ///     ch.make_ascii_lowercase();
-    ///     ch // 'a'
+    ///     let mut chars = [AsciiChar::A, AsciiChar::_7];
+    ///     chars.iter_mut().for_each(|ch| ch.make_ascii_lowercase());
+    ///     chars // ['a', '7']
     #[inline]
     pub fn make_ascii_lowercase(&mut self)
         ensures { code_of self.new ≡ lower_image (code_of self.old) }
@@ -490,6 +511,7 @@ impl AsciiChar {
     /// Returns the uppercase letter for `a` to `z`, and the character itself for every other one.
     ///
     ///     AsciiChar::a.to_ascii_uppercase() // 'A'
+    ///     AsciiChar::CurlyBraceOpen.to_ascii_uppercase() // '{'
     #[inline]
     pub fn to_ascii_uppercase(&self) -> AsciiChar
         ensures { code_of result ≡ upper_image (code_of self.now) }
@@ -504,6 +526,7 @@ impl AsciiChar {
     /// Returns the lowercase letter for `A` to `Z`, and the character itself for every other one.
     ///
     ///     AsciiChar::A.to_ascii_lowercase() // 'a'
+    ///     AsciiChar::At.to_ascii_lowercase() // '@'
     #[inline]
     pub fn to_ascii_lowercase(&self) -> AsciiChar
         ensures { code_of result ≡ lower_image (code_of self.now) }
@@ -518,6 +541,7 @@ impl AsciiChar {
     /// Returns `true` if the two characters are equal, ignoring ASCII case.
     ///
     ///     AsciiChar::a.eq_ignore_ascii_case(&AsciiChar::A) // true
+    ///     AsciiChar::At.eq_ignore_ascii_case(&AsciiChar::Grave) // false
     #[inline]
     pub fn eq_ignore_ascii_case(&self, other: &AsciiChar) -> bool
         ensures { IsTrue result
@@ -552,6 +576,7 @@ impl PartialEq for AsciiChar {
     /// Returns `true` if the codes are equal.
     ///
     ///     AsciiChar::a == AsciiChar::A // false
+    ///     AsciiChar::from_ascii(97u8) == Ok(AsciiChar::a) // true
     #[inline]
     fn eq(&self, other: &AsciiChar) -> bool {
         self.as_byte() == other.as_byte()
@@ -575,6 +600,7 @@ impl PartialOrd for AsciiChar {
     /// Returns the order of the codes.
     ///
     ///     AsciiChar::A < AsciiChar::a // true
+    ///     AsciiChar::a < AsciiChar::Z // false
     #[inline]
     fn partial_cmp(&self, other: &AsciiChar) -> Option<Ordering> {
         Some(self.cmp(other))
@@ -597,6 +623,7 @@ impl Ord for AsciiChar {
     /// Returns the order of the codes.
     ///
     ///     AsciiChar::a.cmp(&AsciiChar::A) // Greater
+    ///     AsciiChar::_9.cmp(&AsciiChar::A) // Less
     #[inline]
     fn cmp(&self, other: &AsciiChar) -> Ordering {
         self.as_byte().cmp(&other.as_byte())
@@ -615,8 +642,8 @@ impl Hash for AsciiChar {
     /// Hashes the code.
     ///
     ///     let mut seen = HashSet::new(alloc);
-    ///     seen.insert(AsciiChar::a)?;
-    ///     seen.contains(&AsciiChar::a) // true
+    ///     seen.insert(AsciiChar::a)? // true
+    ///     seen.insert(AsciiChar::a)? // false
     #[inline]
     fn hash<H: Hasher>(&self, state: &mut H) {
         state.write_u8(self.as_byte());
@@ -634,6 +661,7 @@ impl fmt::Display for AsciiChar {
     /// Writes the character, with the width and the alignment of the format, as for `char`.
     ///
     ///     format!(in alloc; "{}", AsciiChar::a)? // "a"
+    ///     format!(in alloc; "{:>3}", AsciiChar::a)? // "  a"
     #[inline]
     fn fmt<W: fmt::Write>(&self, f: &mut fmt::Formatter<W>) -> fmt::Result {
         fmt::Display::fmt(&self.as_char(), f)
@@ -650,6 +678,7 @@ impl fmt::Debug for AsciiChar {
     /// Writes the character in single quotes, escaped as std escapes a `char`.
     ///
     ///     format!(in alloc; "{:?}", AsciiChar::a)? // "'a'"
+    ///     format!(in alloc; "{:?}", AsciiChar::LineFeed)? // "'\\n'"
     #[inline]
     fn fmt<W: fmt::Write>(&self, f: &mut fmt::Formatter<W>) -> fmt::Result {
         fmt::Debug::fmt(&self.as_char(), f)
@@ -662,6 +691,7 @@ impl From<AsciiChar> for u8 {
     /// Returns the code of the character.
     ///
     ///     u8::from(AsciiChar::a) // 97
+    ///     u8::from(AsciiChar::_7) // 55
     #[inline]
     fn from(ch: AsciiChar) -> u8 {
         ch.as_byte()
@@ -674,6 +704,7 @@ impl From<AsciiChar> for char {
     /// Returns the character as a `char`.
     ///
     ///     char::from(AsciiChar::a) // 'a'
+    ///     char::from(AsciiChar::DEL) // '\u{7f}'
     #[inline]
     fn from(ch: AsciiChar) -> char {
         ch.as_char()
@@ -689,7 +720,8 @@ const MESSAGE: &str = "not an ASCII character";
 impl ToAsciiCharError {
     /// Returns the line of the error: `not an ASCII character`.
     ///
-    ///     200u8.to_ascii_char().map_err(|e| e.description()) // Err("not an ASCII character")
+    ///     128u8.to_ascii_char().map_err(|e| e.description()) // Err("not an ASCII character")
+    ///     127u8.to_ascii_char().map_err(|e| e.description()) // Ok('\u{7f}')
     #[inline]
     pub fn description(&self) -> &'static str
         ensures { result.now ≡ not_ascii_text }
@@ -705,7 +737,7 @@ impl fmt::Debug for ToAsciiCharError {
 
     /// Writes the line of the error, as Display does.
     ///
-    ///     200u8.to_ascii_char() // Err(not an ASCII character)
+    ///     128u8.to_ascii_char() // Err(not an ASCII character)
     #[inline]
     fn fmt<W: fmt::Write>(&self, f: &mut fmt::Formatter<W>) -> fmt::Result {
         fmt::Display::fmt(self, f)

@@ -68,6 +68,7 @@ pub trait Class {
     /// Returns `true` if the byte is in the class.
     ///
     ///     Digit::has(b'7') // true
+    ///     Alphabetic::has(0xe9) // false
     fn has(byte: u8) -> bool
         ensures { IsTrue result ↔ is byte };
 
@@ -85,6 +86,7 @@ pub trait ClassBy<const N: usize>: Class {
     /// Without a test of its own, a class tests one byte after the other.
     ///
     ///     <Digit as ClassBy<4>>::marks(b"42px", 0) // 12
+    ///     <Digit as ClassBy<4>>::marks(b"v42px", 1) // 12
     #[inline(always)]
     fn marks(bytes: &[u8], at: usize) -> u64
         requires lanes { N ≤ 64 }
@@ -127,7 +129,7 @@ pub trait Ranges {
 
     /// Returns the first and the last byte of each range.
     ///
-    ///     AlphabeticRanges::ranges() // [(65, 90), (97, 122)]
+    ///     ControlRanges::ranges() // [(0, 31), (127, 127)]
     fn ranges() -> &'static [(u8, u8)]
         ensures { result.now ≡ list };
 
@@ -159,6 +161,7 @@ impl<R: Ranges> Class for ByRanges<R> {
 
 impl<R: Ranges, const N: usize> ClassBy<N> for ByRanges<R> {
     ///     <Alphabetic as ClassBy<4>>::marks(b"a1b2", 0) // 10
+    ///     <Alphabetic as ClassBy<4>>::marks(b"abcd", 0) // 0
     #[inline(always)]
     fn marks(bytes: &[u8], at: usize) -> u64
         requires lanes { N ≤ 64 }
@@ -192,6 +195,7 @@ impl Class for Ascii {
 
 impl<const N: usize> ClassBy<N> for Ascii {
     ///     <Ascii as ClassBy<4>>::marks(b"a\xc4b\xff", 0) // 10
+    ///     <Ascii as ClassBy<4>>::marks(b"ab\x7f\x80", 0) // 8
     #[inline(always)]
     fn marks(bytes: &[u8], at: usize) -> u64
         requires lanes { N ≤ 64 }

@@ -28,6 +28,7 @@ pub fn caret_encode(c: u8) -> Option<AsciiChar>
 /// for none: 64 less for the bytes 64 to 95, and 127 for the question mark.
 ///
 ///     caret_decode(b'J') // Some('\n')
+///     caret_decode(b'j') // None
 #[inline]
 pub fn caret_decode(c: u8) -> Option<AsciiChar>
     ensures pair { IfSome result (λ control. IsCaretPair (code_of control) c) }

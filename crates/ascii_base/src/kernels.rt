@@ -130,6 +130,7 @@ pub fn run_start<C: Class>(bytes: &[u8], to: usize, inside: bool) -> usize
 /// Returns the position of the first non-ASCII byte, or `None` if all bytes are ASCII.
 ///
 ///     first_other(b"ab\xc4") // Some(2)
+///     first_other(b"ab\x7f") // None
 pub fn first_other(bytes: &[u8]) -> Option<usize>
     ensures { MatchOption result (IsAscii bytes.now) (FirstOther bytes.now 0 (length bytes.now)) }
 {
@@ -154,9 +155,9 @@ pub fn first_other(bytes: &[u8]) -> Option<usize>
 
 /// Changes each byte of `a` to `z` to that of `A` to `Z`. Every other byte is unchanged.
 ///
-///     let mut bytes = *b"ab-7";
+///     let mut bytes = *b"ab-7\xe4";
 ///     upper_in_place(&mut bytes);
-///     bytes == *b"AB-7" // true
+///     bytes == *b"AB-7\xe4" // true
 pub fn upper_in_place(bytes: &mut [u8])
     ensures { bytes.new ≡ map upper_image bytes.old }
 {
@@ -165,9 +166,9 @@ pub fn upper_in_place(bytes: &mut [u8])
 
 /// Changes each byte of `A` to `Z` to that of `a` to `z`. Every other byte is unchanged.
 ///
-///     let mut bytes = *b"AB-7";
+///     let mut bytes = *b"AB-7\xc4";
 ///     lower_in_place(&mut bytes);
-///     bytes == *b"ab-7" // true
+///     bytes == *b"ab-7\xc4" // true
 pub fn lower_in_place(bytes: &mut [u8])
     ensures { bytes.new ≡ map lower_image bytes.old }
 {
@@ -177,6 +178,7 @@ pub fn lower_in_place(bytes: &mut [u8])
 /// Returns `true` if the two byte strings are equal, ignoring ASCII case.
 ///
 ///     eq_ignore_case(b"Host", b"HOST") // true
+///     eq_ignore_case(b"\xe4", b"\xc4") // false
 pub fn eq_ignore_case(first: &[u8], second: &[u8]) -> bool
     ensures { IsTrue result ↔ (map lower_image first.now ≡ map lower_image second.now) }
 {
@@ -222,6 +224,7 @@ pub fn first_not_whitespace(bytes: &[u8]) -> Option<usize>
 /// whitespace: space, tab, line feed, vertical tab, form feed or carriage return.
 ///
 ///     last_not_whitespace(b"ab \n") // Some(1)
+///     last_not_whitespace(b" \x0b") // None
 #[inline]
 pub fn last_not_whitespace(bytes: &[u8]) -> Option<usize>
     ensures { MatchOption result (All IsWhitespace bytes.now) (IsLastNot IsWhitespace bytes.now) }

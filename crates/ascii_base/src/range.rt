@@ -3,7 +3,8 @@
 //!
 //! A call that takes a range says what it does if the range does not fit. `fits` tests it:
 //!
-//!     AsciiRange::Range(1, 3).fits(3)
+//!     AsciiRange::Range(1, 3).fits(3) // true
+//!     AsciiRange::Range(1, 3).fits(2) // false
 
 ghost use Rattle.std.specs.Prelude.{◌≡◌, IsTrue, ◌↔◌};
 ghost use Rattle.ascii_base.specs.Range.{start_of, end_of, Fits};
@@ -49,6 +50,7 @@ impl AsciiRange {
     /// Returns the position of the first byte of the range.
     ///
     ///     AsciiRange::From(4).start() // 4
+    ///     AsciiRange::To(4).start() // 0
     #[inline]
     pub fn start(self) -> usize
         ensures { result ≡ start_of self }
@@ -66,6 +68,7 @@ impl AsciiRange {
     /// Condition: the range fits `n` bytes.
     ///
     ///     AsciiRange::From(4).end(7) // 7
+    ///     AsciiRange::Inclusive(1, 3).end(7) // 4
     #[inline]
     pub fn end(self, n: usize) -> usize
         requires { Fits self n }

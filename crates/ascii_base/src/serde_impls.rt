@@ -20,6 +20,7 @@ impl Serialize for AsciiChar {
     /// Writes the character as a `char`.
     ///
     ///     serde_json::to_string(alloc, &AsciiChar::a)? // "\"a\""
+    ///     serde_json::to_string(alloc, &AsciiChar::LineFeed)? // "\"\\n\""
     fn serialize<S: Serializer>(&self, out: &mut S) -> Result<(), S::Error> {
         out.char(self.as_char())
     }
@@ -28,8 +29,9 @@ impl Serialize for AsciiChar {
 impl DeserializeOwned for AsciiChar {
     /// Reads a `char`, or returns an error if it is not ASCII. Does not allocate.
     ///
-    ///     let value = Value::from_str(alloc, "\"a\"")?;
-    ///     serde_json::from_value::<AsciiChar>(alloc, value).ok() // Some('a')
+    ///     let (one, two) = (Value::from_str(alloc, "\"a\"")?, Value::from_str(alloc, "\"ab\"")?);
+    ///     serde_json::from_value::<AsciiChar>(alloc, one).ok() // Some('a')
+    ///     serde_json::from_value::<AsciiChar>(alloc, two).is_err() // true
     fn deserialize_owned<F: Format>(
         _alloc: Global,
         from: &mut Deserializer<'_, '_, F>,
