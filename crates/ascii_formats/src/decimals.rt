@@ -28,6 +28,7 @@ use std::fmt;
 ///
 ///     let price = Decimal { negative: false, digits: 995, places: 2 };
 ///     AsciiStr::literal("9.95").to_decimal() == Ok(price) // true
+///     AsciiStr::literal("9.950").to_decimal() == Ok(price) // true
 #[derive(Clone, Copy, PartialEq, Eq, Debug)]
 pub struct Decimal {
     /// Whether a `-` comes before the digits. It may also come before 0.

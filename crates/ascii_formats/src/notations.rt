@@ -8,6 +8,7 @@
 //! Each returns an iterator over the characters that are written, and `{}` prints them:
 //!
 //!     EscapeAscii::new(AsciiStr::literal("a\tb")).to_string(alloc)? // "a\\tb"
+//!     Caret::new(AsciiStr::literal("a\tb")).to_string(alloc)? // "a^Ib"
 //!
 //! A contract sees the iterator as the list of codes that it has yet to yield. Nothing here allocates.
 
@@ -183,6 +184,7 @@ impl<N: Notation> Clone for Written<'_, N> {
     /// Returns an iterator over the same characters. Always returns `Ok`.
     ///
     ///     EscapeAscii::new(AsciiStr::literal("\t")).clone()?.next() // Some('\\')
+    ///     EscapeAscii::new(AsciiStr::literal("")).clone()?.next() // None
     fn clone(&self) -> Result<Self, AllocError> {
         Ok(Written {
             front: self.front.clone()?,
@@ -226,6 +228,7 @@ impl<N: Notation> DoubleEndedIterator for Written<'_, N> {
     /// keeps returning `None`.
     ///
     ///     Caret::new(AsciiStr::literal("\t")).next_back() // Some('I')
+    ///     Caret::new(AsciiStr::literal("")).next_back() // None
     fn next_back(&mut self) -> Option<AsciiChar> {
         if let Some(ch) = self.back.next_back() {
             return Some(ch);
@@ -248,6 +251,7 @@ impl<N: Notation> fmt::Display for Written<'_, N> {
     /// Writes the remaining characters. The options of the format have no effect.
     ///
     ///     format!(in alloc; "{}", EscapeAscii::new(AsciiStr::literal("a\0")))? // "a\\x00"
+    ///     format!(in alloc; "{:5}", Caret::new(AsciiStr::literal("\0")))? // "^@"
     fn fmt<W: fmt::Write>(&self, f: &mut fmt::Formatter<W>) -> fmt::Result {
         f.write_str(self.front.as_str().as_str())?;
         write_all::<N, W>(self.chars.as_str(), f)?;

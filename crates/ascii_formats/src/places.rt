@@ -82,6 +82,7 @@ impl fmt::Display for Place {
     /// Writes the line, a colon and the column.
     ///
     ///     Place { line: 3, column: 10 }.to_string(alloc)? // "3:10"
+    ///     AsciiStr::literal("").line_and_column(0).to_string(alloc)? // "1:1"
     fn fmt<W: fmt::Write>(&self, f: &mut fmt::Formatter<W>) -> fmt::Result {
         let Place { line, column } = self;
         write!(f, "{line}:{column}")
@@ -91,6 +92,7 @@ impl fmt::Display for Place {
 /// What is wrong in a text, and where.
 ///
 ///     AsciiStr::literal("a\nb c").fault_at(3, "no '='").to_string(alloc)? // "2:2: no '='"
+///     AsciiStr::literal("a\n").fault_at(2, "no key").to_string(alloc)? // "2:1: no key"
 #[derive(Clone, Copy, PartialEq, Eq, Debug)]
 pub struct Fault<E> {
     /// The line and the column of the fault.
@@ -109,6 +111,7 @@ impl<E: fmt::Display> fmt::Display for Fault<E> {
     /// Writes the place, a colon, a space and what is wrong.
     ///
     ///     AsciiStr::literal("").fault_at(0, "empty").to_string(alloc)? // "1:1: empty"
+    ///     AsciiStr::literal("a\nb").fault_at(2, 'b').to_string(alloc)? // "2:1: b"
     fn fmt<W: fmt::Write>(&self, f: &mut fmt::Formatter<W>) -> fmt::Result {
         let Fault { place, what } = self;
         write!(f, "{place}: {what}")

@@ -12,6 +12,7 @@
 //!
 //!     let line = Spanned::whole(AsciiStr::literal("port = 80"));
 //!     line.split_once(AsciiChar::Equal).map(|(_, value)| value.trim()) // Some(Spanned { start: 7, text: "80" })
+//!     line.split_once(AsciiChar::Colon) // None
 //!
 //! A contract says that the result lies in every text in which the part lies (`KeepsPlace`), and which end it shares
 //! with the part. So what is cut from `Spanned::whole(text)` lies in `text`: the text has the part at its start.
@@ -49,6 +50,7 @@ impl<'a> Spanned<'a> {
     /// Returns all of a text, which starts at 0.
     ///
     ///     Spanned::whole(AsciiStr::literal("ab")) // Spanned { start: 0, text: "ab" }
+    ///     Spanned::whole(AsciiStr::literal("")) // Spanned { start: 0, text: "" }
     #[tactic(auto, using(crate::proofs::SpannedLemmas::whole_lies))]
     pub fn whole(text: AsciiStr<'a>) -> Spanned<'a>
         ensures text { text_of result.text ≡ text_of text.entry }
@@ -60,6 +62,7 @@ impl<'a> Spanned<'a> {
     /// Returns the position after the last byte of the part.
     ///
     ///     Spanned::whole(AsciiStr::literal("ab")).end() // 2
+    ///     Spanned::whole(AsciiStr::literal(" ab ")).trim().end() // 3
     pub fn end(self) -> usize
         ensures { result ≡ end_of self.entry }
     {

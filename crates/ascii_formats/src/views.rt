@@ -150,6 +150,7 @@ pub trait AsciiStrExt: Sized {
     /// Condition: `position` is at most the length.
     ///
     ///     AsciiStr::literal("ab\ncd").fault_at(4, "no '='") // Fault { place: Place { line: 2, column: 2 }, what: "no '='" }
+    ///     AsciiStr::literal("ab\n").fault_at(3, "no key").place // Place { line: 2, column: 1 }
     fn fault_at<E>(self, position: usize, what: E) -> Fault<E>
         requires { position ≤ length (codes self) }
         ensures { result ≡ record { place = place_at (codes self) position; what = what } };
