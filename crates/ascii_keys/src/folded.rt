@@ -23,6 +23,7 @@ use std::marker::Model;
 /// its own case, which is what it prints.
 ///
 ///     FoldedStr::new(AsciiStr::literal("Host")) == FoldedStr::new(AsciiStr::literal("HOST")) // true
+///     FoldedStr::new(AsciiStr::literal("HOST")) // "HOST"
 #[derive(Drop)]
 pub struct Folded<T: AsStr> {
     text: T,
@@ -46,6 +47,7 @@ impl<T: AsStr> Folded<T> {
     /// Returns the text as one that is compared ignoring ASCII case. Nothing is copied.
     ///
     ///     FoldedStr::new(AsciiStr::literal("Host")) // "Host"
+    ///     Folded::new(AsciiStr::literal("").to_ascii_string(alloc)?) // ""
     #[inline]
     pub fn new(text: T) -> Folded<T>
         ensures { result ≡ T.text text }
@@ -56,6 +58,7 @@ impl<T: AsStr> Folded<T> {
     /// Returns the text, in its own case. A string keeps its buffer.
     ///
     ///     FoldedStr::new(AsciiStr::literal("Host")).into_inner() // "Host"
+    ///     FoldedStr::new(AsciiStr::literal("a")).into_inner() == AsciiStr::literal("A") // false
     #[inline]
     pub fn into_inner(self) -> T
         ensures { T.text result ≡ self }
@@ -77,6 +80,7 @@ impl FoldedStr<'_> {
     /// the allocation fails.
     ///
     ///     FoldedStr::new(AsciiStr::literal("Host")).to_folded_string(alloc)? // "Host"
+    ///     FoldedStr::new(AsciiStr::literal("")).to_folded_string(alloc)? // ""
     pub fn to_folded_string<A: Allocator>(self, alloc: A) -> Result<FoldedString<A>, AllocError>
         ensures { IfOk result (λ folded. folded ≡ self.entry) }
     {
@@ -87,7 +91,9 @@ impl FoldedStr<'_> {
 impl<B: Buffer> Folded<Text<B>> {
     /// Returns a view of the text that is compared in the same way.
     ///
-    ///     Folded::new(AsciiStr::literal("Host").to_ascii_string(alloc)?).as_folded() == FoldedStr::new(AsciiStr::literal("HOST")) // true
+    ///     let key = FoldedStr::new(AsciiStr::literal("Host")).to_folded_string(alloc)?;
+    ///     key.as_folded() == FoldedStr::new(AsciiStr::literal("HOST")) // true
+    ///     key.as_folded() == FoldedStr::new(AsciiStr::literal("Hos")) // false
     #[inline]
     pub fn as_folded(&self) -> FoldedStr<'_>
         ensures { result ≡ self.now }
@@ -104,6 +110,7 @@ impl<T: AsStr> PartialEq for Folded<T> {
     /// Returns `true` if the two texts are equal, ignoring ASCII case.
     ///
     ///     FoldedStr::new(AsciiStr::literal("Host")) == FoldedStr::new(AsciiStr::literal("Hosts")) // false
+    ///     Folded::new(AsciiStr::literal("Host")) == Folded::new(AsciiStr::literal("HOST")) // true
     fn eq(&self, other: &Self) -> bool {
         kernels::eq_ignore_case(self.bytes(), other.bytes())
     }
@@ -122,6 +129,7 @@ impl<T: AsStr> PartialOrd for Folded<T> {
     /// Returns the order of the two texts in lower case: that of `cmp`.
     ///
     ///     FoldedStr::new(AsciiStr::literal("HOST")) < FoldedStr::new(AsciiStr::literal("hostess")) // true
+    ///     FoldedStr::new(AsciiStr::literal("Z")) < FoldedStr::new(AsciiStr::literal("_")) // false
     fn partial_cmp(&self, other: &Self) -> Option<Ordering> {
         Some(self.cmp(other))
     }
@@ -139,6 +147,7 @@ impl<T: AsStr> Ord for Folded<T> {
     /// Returns the order of the two texts in lower case: lexicographic, by the codes.
     ///
     ///     FoldedStr::new(AsciiStr::literal("b")).cmp(&FoldedStr::new(AsciiStr::literal("A"))) // Greater
+    ///     Folded::new(AsciiStr::literal("a")).cmp(&Folded::new(AsciiStr::literal("A"))) // Equal
     fn cmp(&self, other: &Self) -> Ordering {
         compare_lower(self.bytes(), other.bytes())
     }
@@ -152,8 +161,8 @@ impl<T: AsStr> Hash for Folded<T> {
     /// Hashes the text in lower case, so that equal texts have equal hashes.
     ///
     ///     let mut seen = HashSet::new(alloc);
-    ///     seen.insert(FoldedStr::new(AsciiStr::literal("Host")))?;
-    ///     seen.contains(&FoldedStr::new(AsciiStr::literal("HOST"))) // true
+    ///     seen.insert(FoldedStr::new(AsciiStr::literal("Host")))? // true
+    ///     seen.insert(FoldedStr::new(AsciiStr::literal("HOST")))? // false
     fn hash<H: Hasher>(&self, state: &mut H) {
         let bytes = self.bytes();
         state.write_usize(bytes.len());
@@ -205,6 +214,7 @@ impl<T: AsStr> fmt::Display for Folded<T> {
     /// format, as for `str`.
     ///
     ///     format!(in alloc; "{}", FoldedStr::new(AsciiStr::literal("Host")))? // "Host"
+    ///     format!(in alloc; "{:>5.3}", FoldedStr::new(AsciiStr::literal("Host")))? // "  Hos"
     fn fmt<W: fmt::Write>(&self, f: &mut fmt::Formatter<W>) -> fmt::Result {
         fmt::Display::fmt(self.text.as_str(), f)
     }
@@ -219,6 +229,7 @@ impl fmt::Debug for FoldedStr<'_> {
     /// Writes the text in its own case, in double quotes, escaped as std escapes it.
     ///
     ///     format!(in alloc; "{:?}", FoldedStr::new(AsciiStr::literal("Host")))? // "\"Host\""
+    ///     format!(in alloc; "{:?}", FoldedStr::new(AsciiStr::literal("\t")))? // "\"\\t\""
     fn fmt<W: fmt::Write>(&self, f: &mut fmt::Formatter<W>) -> fmt::Result {
         fmt::Debug::fmt(&self.text, f)
     }
@@ -232,7 +243,8 @@ impl<B: Buffer> fmt::Debug for Folded<Text<B>> {
 
     /// Writes the text in its own case, in double quotes, escaped as std escapes it.
     ///
-    ///     format!(in alloc; "{:?}", FoldedStr::new(AsciiStr::literal("Host")).to_folded_string(alloc)?)? // "\"Host\""
+    ///     FoldedStr::new(AsciiStr::literal("Host")).to_folded_string(alloc)? // "Host"
+    ///     FoldedStr::new(AsciiStr::literal("a\tb")).to_folded_string(alloc)? // "a\tb"
     fn fmt<W: fmt::Write>(&self, f: &mut fmt::Formatter<W>) -> fmt::Result {
         fmt::Debug::fmt(&self.as_folded(), f)
     }

@@ -3,6 +3,7 @@
 //!     let mut headers = FoldedMap::new(alloc);
 //!     headers.insert(AsciiStr::literal("Host"), 1)?;
 //!     headers.get(AsciiStr::literal("HOST")) // Some(1)
+//!     headers.get(AsciiStr::literal("Hosts")) // None
 //!
 //! | You want | Use |
 //! |---|---|

@@ -66,7 +66,10 @@ impl<V: Drop> AsciiMap<V> {
 
     /// Returns `true` if there is a value at `key`.
     ///
-    ///     AsciiMap::<u8>::new(alloc).contains_key(AsciiStr::literal("http")) // false
+    ///     let mut ports = AsciiMap::new(alloc);
+    ///     ports.insert(AsciiStr::literal("http"), 80)?;
+    ///     ports.contains_key(AsciiStr::literal("http")) // true
+    ///     ports.contains_key(AsciiStr::literal("HTTP")) // false
     pub fn contains_key(&self, key: AsciiStr<'_>) -> bool
         ensures { result ≡ is_some (value_at self.now (text_of key.entry)) }
     {
@@ -110,7 +113,9 @@ impl<V: Drop> AsciiMap<V> {
 
     /// Returns the number of keys that have a value.
     ///
-    ///     AsciiMap::<u8>::new(alloc).len() // 0
+    ///     let mut ports = AsciiMap::new(alloc);
+    ///     ports.insert(AsciiStr::literal("http"), 80)? // None
+    ///     ports.len() // 1
     pub fn len(&self) -> usize
         ensures { result ≡ size_of self.now }
     {
@@ -119,7 +124,9 @@ impl<V: Drop> AsciiMap<V> {
 
     /// Returns `true` if no key has a value.
     ///
-    ///     AsciiMap::<u8>::new(alloc).is_empty() // true
+    ///     let mut ports = AsciiMap::new(alloc);
+    ///     ports.insert(AsciiStr::literal(""), 80)? // None
+    ///     ports.is_empty() // false
     pub fn is_empty(&self) -> bool
         ensures { IsTrue result ↔ (size_of self.now ≡ 0) }
     {
@@ -224,7 +231,10 @@ impl<V: Drop> FoldedMap<V> {
 
     /// Returns the number of keys that have a value.
     ///
-    ///     FoldedMap::<u8>::new(alloc).len() // 0
+    ///     let mut headers = FoldedMap::new(alloc);
+    ///     headers.insert(AsciiStr::literal("Host"), 1)? // None
+    ///     headers.insert(AsciiStr::literal("HOST"), 2)? // Some(1)
+    ///     headers.len() // 1
     pub fn len(&self) -> usize
         ensures { result ≡ length self.now }
     {
@@ -233,7 +243,9 @@ impl<V: Drop> FoldedMap<V> {
 
     /// Returns `true` if no key has a value.
     ///
-    ///     FoldedMap::<u8>::new(alloc).is_empty() // true
+    ///     let mut headers = FoldedMap::new(alloc);
+    ///     headers.insert(AsciiStr::literal(""), 1)? // None
+    ///     headers.is_empty() // false
     pub fn is_empty(&self) -> bool
         ensures { IsTrue result ↔ (self.now ≡ []) }
     {
