@@ -54,6 +54,7 @@ impl<A: Allocator> BufferedSink<A> {
     /// With a `size` of 0, the bytes of each call go to the sink at once.
     ///
     ///     BufferedSink::new(alloc, 4)?.is_broken() // false
+    ///     BufferedSink::new(alloc, usize::MAX).is_err() // true
     pub fn new(alloc: A, size: usize) -> Result<BufferedSink<A>, AllocError>
         ensures ready { IfOk result IsReady }
         ensures size { IfOk result (λ buffer. buffer.size ≡ size) }
@@ -239,7 +240,10 @@ impl<A: Allocator> BufferedSink<A> {
 
     /// Returns `true` if a write or a flush has failed, or after `give_up`.
     ///
-    ///     BufferedSink::new(alloc, 4)?.is_broken() // false
+    ///     let mut buffer = BufferedSink::new(alloc, 4)?;
+    ///     buffer.is_broken() // false
+    ///     buffer.give_up();
+    ///     buffer.is_broken() // true
     #[inline]
     pub fn is_broken(&self) -> bool
         ensures broken { result ≡ self.now.is_broken }
@@ -253,8 +257,10 @@ impl<A: Allocator> BufferedSink<A> {
     ///
     ///     let mut output = Output::new(Vec::new(alloc));
     ///     let mut buffer = BufferedSink::new(alloc, 4)?;
+    ///     buffer.put(&mut output, b"ab");
     ///     buffer.give_up();
     ///     buffer.finish(&mut output) // Err(DeviceFault)
+    ///     output.into_inner() // []
     pub fn give_up(&mut self)
         ensures broken { self.new.is_broken ≡ true }
         ensures bytes { self.new.bytes ≡ self.old.bytes }
@@ -271,6 +277,7 @@ static ZEROS: [u8; 1_024] = [0; 1_024];
 /// a loop that appends a byte at a time takes longer than the output of a short text.
 ///
 ///     zeros(alloc, 3)? // [0, 0, 0]
+///     zeros(alloc, usize::MAX) // Err(AllocError)
 pub fn zeros<A: Allocator>(alloc: A, count: usize) -> Result<Vec<u8, A>, AllocError>
     ensures size { IfOk result (λ zeros. vec_len zeros ≡ count) }
     ensures zeros { IfOk result (λ zeros. All (λ byte. byte ≡ 0) zeros.items) }

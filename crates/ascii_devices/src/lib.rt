@@ -55,7 +55,7 @@ impl fmt::Display for DeviceFault {
 
     /// Writes `a device failed`.
     ///
-    ///     DeviceFault.to_string(alloc)? // "a device failed"
+    ///     format!(in alloc; "{0} ({0:?})", DeviceFault)? // "a device failed (DeviceFault)"
     fn fmt<W: fmt::Write>(&self, f: &mut fmt::Formatter<W>) -> fmt::Result {
         f.write_str("a device failed")
     }
@@ -79,7 +79,9 @@ pub trait Source {
 
     /// Returns how many calls have failed.
     ///
-    ///     Input::new(b"ab".as_slice()).failures() // 0
+    ///     let mut input = Input::new(b"".as_slice());
+    ///     input.read(&mut [0; 4]) // Ok(0)
+    ///     input.failures() // 0
     fn failures(&self) -> u64
         ensures { result ≡ failures self.now };
 
@@ -124,7 +126,10 @@ pub trait Sink {
 
     /// Returns how many calls have failed.
     ///
-    ///     Output::new(Vec::new(alloc)).failures() // 0
+    ///     let mut full = [0u8; 0];
+    ///     let mut output = Output::new(full.as_mut_slice());
+    ///     output.write(b"a") // Err(DeviceFault)
+    ///     output.failures() // 1
     fn failures(&self) -> u64
         ensures { result ≡ failures self.now };
 
@@ -159,6 +164,7 @@ pub trait Sink {
     /// Condition: fewer than `u64::MAX` calls have failed.
     ///
     ///     Output::new(Vec::new(alloc)).flush() // Ok(())
+    ///     Output::new([0u8; 0].as_mut_slice()).flush() // Ok(())
     fn flush(&mut self) -> Result<(), DeviceFault>
         requires count { failures self.old < u64.MAX }
         ensures bytes { Keeps (taken self.old) (taken self.new) }
@@ -203,7 +209,8 @@ impl<R: io::Read> Input<R> {
 
     /// Creates a source over the reader, with no failure and an empty history.
     ///
-    ///     Input::new(b"ab".as_slice()).failures() // 0
+    ///     Input::new(b"ab".as_slice()).read(&mut [0; 4]) // Ok(2)
+    ///     Input::new(b"".as_slice()).read(&mut [0; 4]) // Ok(0)
     pub fn new(reader: R) -> Input<R>
         ensures reader { reader_of result ≡ reader }
         ensures failures { input_failures result ≡ 0 }
@@ -219,7 +226,9 @@ impl<R: io::Read> Input<R> {
 
     /// Returns the reader.
     ///
-    ///     Input::new(b"ab".as_slice()).into_inner() // [97, 98]
+    ///     let mut input = Input::new(b"ab".as_slice());
+    ///     input.read(&mut [0; 1]) // Ok(1)
+    ///     input.into_inner() // [98]
     pub fn into_inner(self) -> R
         ensures { result ≡ reader_of self }
     {
@@ -296,7 +305,8 @@ impl<W: io::Write> Output<W> {
 
     /// Creates a sink over the writer, with no failure and an empty history.
     ///
-    ///     Output::new(Vec::new(alloc)).failures() // 0
+    ///     Output::new(Vec::new(alloc)).write(b"ab") // Ok(2)
+    ///     Output::new([0u8; 0].as_mut_slice()).write(b"ab") // Err(DeviceFault)
     pub fn new(writer: W) -> Output<W>
         ensures writer { writer_of result ≡ writer }
         ensures failures { output_failures result ≡ 0 }
@@ -331,7 +341,10 @@ impl<W: io::Write> Output<W> {
     /// failed. For a write that took no byte it is an error of the kind `WriteZero`. The writer is
     /// dropped.
     ///
-    ///     Output::new(Vec::new(alloc)).into_error() // None
+    ///     let mut full = [0u8; 0];
+    ///     let mut output = Output::new(full.as_mut_slice());
+    ///     output.write(b"a") // Err(DeviceFault)
+    ///     output.into_error() // Some(Kind(WriteZero))
     pub fn into_error(self) -> Option<io::Error>
     where
         W: Drop,
