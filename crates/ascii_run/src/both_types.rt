@@ -32,6 +32,7 @@ pub struct BothRuns {
 /// only for a copy, or for a text or room of more than 24 characters.
 ///
 ///     run_both(alloc, AsciiStr::literal("foo"), &[Cmd::Upper, Cmd::Pop])?.small // "FO"
+///     run_both(alloc, AsciiStr::literal("foo"), &[Cmd::Remove(3)])?.small_replies // [BadPosition]
 pub fn run_both(alloc: Global, view: AsciiStr<'_>, cmds: &[Cmd<'_>]) -> Result<BothRuns, AllocError>
     ensures string { IfOk result (λ both.
         Run 0 (text_of view.entry) cmds.now both.replies.items both.string.text) }

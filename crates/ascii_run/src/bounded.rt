@@ -92,7 +92,7 @@ macro_rules! list {
 impl BoundedMode {
     /// Returns all modes.
     ///
-    ///     BoundedMode::all().contains(&BoundedMode::Lines) // true
+    ///     BoundedMode::all() // [Copy, Lines, Caret, Json, Upper, Lower, Escape, Lossy]
     pub fn all() -> &'static [BoundedMode]
         ensures { (mode : BoundedMode) → Contains result.now mode }
     {
@@ -102,6 +102,7 @@ impl BoundedMode {
     /// Returns the name of the mode: that of its variant, in lower case.
     ///
     ///     BoundedMode::Lines.name() // "lines"
+    ///     BoundedMode::from_name(BoundedMode::Lossy.name()) // Some(Lossy)
     pub fn name(self) -> &'static str
         ensures { result.now ≡ bounded_name self }
     {

@@ -6,7 +6,7 @@
 //!
 //!     let mut text = AsciiString::new(alloc);
 //!     let cmds: [Cmd; 3] = [Cmd::Push(AsciiChar::a), Cmd::Remove(1), Cmd::Len];
-//!     let replies = run(alloc, &mut text, &cmds)?;
+//!     run(alloc, &mut text, &cmds)? // [Done, BadPosition, Number(1)]
 //!
 //! The replies are `Done`, `BadPosition` and `Number(1)`.
 //!
@@ -133,10 +133,10 @@ pub fn run<A: Allocator + Copy, B: AsciiBuf>(
 /// Lemma with no run-time effect: if no reply of a run is `NoMemory`, then the text before and the
 /// commands decide its replies and the text that it leaves.
 ///
-///     let mut text = AsciiStr::literal("foo").to_ascii_string(alloc)?;
 ///     let cmds: [Cmd; 1] = [Cmd::Len];
-///     let replies = run(alloc, &mut text, &cmds)?;
-///     plain_run(&cmds, &replies) // ()
+///     let both = run_both(alloc, AsciiStr::literal("foo"), &cmds)?;
+///     plain_run(&cmds, &both.replies) // ()
+///     both.replies // [Number(3)]
 pub fn plain_run<A: Allocator>(cmds: &[Cmd<'_>], replies: &[Reply<A>])
     ensures { (sure : ℕ) → (t t2 : List ℕ)
         → Run sure t cmds.now replies.now t2 → NeverOutOfMemory replies.now
@@ -146,10 +146,10 @@ pub fn plain_run<A: Allocator>(cmds: &[Cmd<'_>], replies: &[Reply<A>])
 /// Lemma with no run-time effect: two runs of one list of commands from one text have the same
 /// replies up to the first `NoMemory` of either; if neither has one, they leave the same text.
 ///
-///     let mut text = AsciiStr::literal("foo").to_ascii_string(alloc)?;
 ///     let cmds: [Cmd; 1] = [Cmd::Len];
-///     let replies = run(alloc, &mut text, &cmds)?;
-///     runs_agree(&cmds, &replies, &replies) // ()
+///     let both = run_both(alloc, AsciiStr::literal("foo"), &cmds)?;
+///     runs_agree(&cmds, &both.replies, &both.small_replies) // ()
+///     both.small_replies // [Number(3)]
 pub fn runs_agree<A: Allocator, B: Allocator>(
     cmds: &[Cmd<'_>],
     first: &[Reply<A>],

@@ -53,7 +53,7 @@ impl From<AllocError> for EngineFault {
 
     /// Returns `Memory`.
     ///
-    ///     EngineFault::from(AllocError) // Memory
+    ///     AsciiString::with_capacity(alloc, usize::MAX).map_err(EngineFault::from) // Err(Memory)
     fn from(_: AllocError) -> EngineFault {
         EngineFault::Memory
     }
@@ -68,6 +68,7 @@ impl From<AsAsciiStrError> for EngineFault {
     /// Returns `NotAscii` with the position of the error.
     ///
     ///     bytes::as_ascii_str(b"ab\xc4").map_err(EngineFault::from) // Err(NotAscii(2))
+    ///     bytes::as_ascii_str(b"ab\x7f").map_err(EngineFault::from) // Ok("ab\u{7f}")
     fn from(e: AsAsciiStrError) -> EngineFault {
         EngineFault::NotAscii(e.valid_up_to())
     }
@@ -118,7 +119,7 @@ impl From<AllocError> for BoundedFault {
 
     /// Returns `Memory`.
     ///
-    ///     BoundedFault::from(AllocError) // Memory
+    ///     AsciiString::with_capacity(alloc, usize::MAX).map_err(BoundedFault::from) // Err(Memory)
     fn from(_: AllocError) -> BoundedFault {
         BoundedFault::Memory
     }

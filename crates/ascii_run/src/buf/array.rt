@@ -18,7 +18,7 @@ impl fmt::Display for Full {
 
     /// Writes `the text does not fit`.
     ///
-    ///     format!(in alloc; "{}", Full)? // "the text does not fit"
+    ///     format!(in alloc; "{0} ({0:?})", Full)? // "the text does not fit (Full)"
     fn fmt<W: fmt::Write>(&self, f: &mut fmt::Formatter<W>) -> fmt::Result {
         f.write_str("the text does not fit")
     }

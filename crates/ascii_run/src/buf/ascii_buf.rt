@@ -23,6 +23,7 @@ pub trait AsciiBuf {
     /// Returns a view of the whole text.
     ///
     ///     AsciiBuf::as_ascii_str(&SmallAsciiString::new(alloc)) // ""
+    ///     AsciiBuf::as_ascii_str(&AsciiStr::literal("foo").to_ascii_string(alloc)?) // "foo"
     fn as_ascii_str(&self) -> AsciiStr<'_>
         ensures { text_of result ≡ (state self.now).text };
 
@@ -33,6 +34,7 @@ pub trait AsciiBuf {
     ///
     ///     let mut text = SmallAsciiString::new(alloc);
     ///     text.reserve(24) // Ok(())
+    ///     text.is_inline() // true
     fn reserve(&mut self, additional: usize) -> Result<(), AllocError>
         requires { length (state self.old).text + additional ≤ usize.MAX }
         ensures { Reserves sure additional (state self.old) (state self.new) result };
@@ -126,6 +128,8 @@ pub trait AsciiBuf {
     /// Keeps the first `n` characters, or all if there are fewer.
     ///
     ///     let mut text = SmallAsciiString::from_ascii_str(alloc, AsciiStr::literal("foo"))?;
+    ///     text.truncate(7);
+    ///     text // "foo"
     ///     text.truncate(2);
     ///     text // "fo"
     fn truncate(&mut self, n: usize)
@@ -137,6 +141,7 @@ pub trait AsciiBuf {
     ///     let mut text = SmallAsciiString::from_ascii_str(alloc, AsciiStr::literal("foo"))?;
     ///     text.clear();
     ///     text // ""
+    ///     text.capacity() // 24
     fn clear(&mut self)
         ensures { EditsInPlace [] (state self.old) (state self.new) };
 
@@ -145,8 +150,9 @@ pub trait AsciiBuf {
     /// Condition: `i` is less than the length.
     ///
     ///     let mut text = SmallAsciiString::from_ascii_str(alloc, AsciiStr::literal("foo"))?;
-    ///     text.set(0, AsciiChar::z);
-    ///     text // "zoo"
+    ///     text.set(2, AsciiChar::x);
+    ///     text // "fox"
+    ///     text.len() // 3
     fn set(&mut self, i: usize, ch: AsciiChar)
         requires { i < length (state self.old).text }
         ensures { let old = state self.old in
@@ -154,18 +160,18 @@ pub trait AsciiBuf {
 
     /// Changes `a` to `z` to `A` to `Z`. Every other character is unchanged.
     ///
-    ///     let mut text = SmallAsciiString::from_ascii_str(alloc, AsciiStr::literal("foo"))?;
+    ///     let mut text = SmallAsciiString::from_ascii_str(alloc, AsciiStr::literal("foo{1}"))?;
     ///     text.make_ascii_uppercase();
-    ///     text // "FOO"
+    ///     text // "FOO{1}"
     fn make_ascii_uppercase(&mut self)
         ensures { let old = state self.old in
             EditsInPlace (map upper_image old.text) old (state self.new) };
 
     /// Changes `A` to `Z` to `a` to `z`. Every other character is unchanged.
     ///
-    ///     let mut text = SmallAsciiString::from_ascii_str(alloc, AsciiStr::literal("FOO"))?;
+    ///     let mut text = SmallAsciiString::from_ascii_str(alloc, AsciiStr::literal("FOO@1"))?;
     ///     text.make_ascii_lowercase();
-    ///     text // "foo"
+    ///     text // "foo@1"
     fn make_ascii_lowercase(&mut self)
         ensures { let old = state self.old in
             EditsInPlace (map lower_image old.text) old (state self.new) };
