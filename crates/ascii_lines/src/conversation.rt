@@ -177,6 +177,7 @@ impl<A: Allocator> Conversation<A> {
     ///     let mut replies = Replies::new(writer, Ending::Lf);
     ///     talk.fail(&mut Echo, &mut replies);
     ///     talk.stop() // Some(Reader(Read))
+    ///     talk.feed(&mut Echo, b"ab\n", &mut replies) // 0
     pub fn fail<H: Handler, K: Sink, B: Allocator>(
         &mut self,
         handler: &mut H,
@@ -230,8 +231,11 @@ impl<A: Allocator> Conversation<A> {
 
     /// Returns `true` if the conversation is over.
     ///
-    ///     let talk = Conversation::new(alloc, 64, Endings::Any)?;
+    ///     let mut talk = Conversation::new(alloc, 64, Endings::Any)?;
     ///     talk.is_closed() // false
+    ///     let writer = LineWriter::new(alloc, Output::new(Vec::new(alloc)), 64)?;
+    ///     talk.end(&mut Echo, &mut Replies::new(writer, Ending::Lf));
+    ///     talk.is_closed() // true
     pub fn is_closed(&self) -> bool
         ensures { IsTrue result ↔ IsOver self.now.awaited }
     {
@@ -240,8 +244,11 @@ impl<A: Allocator> Conversation<A> {
 
     /// Returns why the conversation is over, or `None` if it is not.
     ///
-    ///     let talk = Conversation::new(alloc, 64, Endings::Any)?;
+    ///     let mut talk = Conversation::new(alloc, 64, Endings::Any)?;
     ///     talk.stop() // None
+    ///     let writer = LineWriter::new(alloc, Output::new(Vec::new(alloc)), 64)?;
+    ///     talk.feed(&mut Echo, b"\xff\n", &mut Replies::new(writer, Ending::Lf)) // 2
+    ///     talk.stop() // Some(Reader(NotAscii(0)))
     pub fn stop(&self) -> Option<Stop>
         ensures { result ≡ stop_of self.now.awaited }
     {
@@ -255,8 +262,10 @@ impl<A: Allocator> Conversation<A> {
     /// that of the line or part at fault; after an error in the rest of a line that was rejected, the one after the
     /// bytes of it that were skipped.
     ///
-    ///     let talk = Conversation::new(alloc, 64, Endings::Any)?;
-    ///     talk.position() // 0
+    ///     let mut talk = Conversation::new(alloc, 64, Endings::Any)?;
+    ///     let writer = LineWriter::new(alloc, Output::new(Vec::new(alloc)), 64)?;
+    ///     talk.feed(&mut Echo, b"ab\nc", &mut Replies::new(writer, Ending::Lf)) // 4
+    ///     talk.position() // 3
     pub fn position(&self) -> u64
         ensures { result ≡ self.now.start }
     {

@@ -154,10 +154,11 @@ impl<S: Source, A: Allocator> LineReader<S, A> {
     /// starts where it would have started, and a reader that has returned `None` or an error continues to
     /// return it.
     ///
-    ///     let source = Input::new(b"a\nb\r\nc".as_slice());
+    ///     let source = Input::new(b"a\nb\nc\r\n".as_slice());
     ///     let mut reader = LineReader::new(alloc, source, 64, Endings::Any)?;
+    ///     reader.next_line() // Ok(Some(ReadLine { start: 0, text: "a", ending: Lf }))
     ///     reader.lines_ended_by(Endings::CrLf);
-    ///     reader.next_line() // Ok(Some(ReadLine { start: 0, text: "a\nb", ending: CrLf }))
+    ///     reader.next_line() // Ok(Some(ReadLine { start: 2, text: "b\nc", ending: CrLf }))
     pub fn lines_ended_by(&mut self, endings: Endings)
         ensures state { self.new.state ≡ ended_by endings self.old.state }
         ensures source { self.new.source ≡ self.old.source }
@@ -167,9 +168,10 @@ impl<S: Source, A: Allocator> LineReader<S, A> {
 
     /// Returns the source. Bytes that the reader has read of it are lost.
     ///
-    ///     let source = Input::new(b"ab\n".as_slice());
-    ///     let reader = LineReader::new(alloc, source, 64, Endings::Any)?;
-    ///     reader.into_source().into_inner() // [97, 98, 10]
+    ///     let source = Input::new(b"ab\ncd".as_slice());
+    ///     let mut reader = LineReader::new(alloc, source, 64, Endings::Any)?;
+    ///     reader.next_line() // Ok(Some(ReadLine { start: 0, text: "ab", ending: Lf }))
+    ///     reader.into_source().into_inner() // []
     pub fn into_source(self) -> S
         ensures { result ≡ self.source }
     {

@@ -154,8 +154,10 @@ impl<K: Sink, A: Allocator> LineWriter<K, A> {
     /// After `Ok` the sink has taken all lines that were written, and was flushed. On an error it has
     /// taken a prefix of them.
     ///
-    ///     let mut writer = LineWriter::new(alloc, Output::new(Vec::new(alloc)), 64)?;
-    ///     writer.flush() // Ok(())
+    ///     let mut room = [0u8; 2];
+    ///     let mut writer = LineWriter::new(alloc, Output::new(room.as_mut_slice()), 64)?;
+    ///     writer.write_line(AsciiStr::literal("ab"), Ending::Lf) // Ok(())
+    ///     writer.flush() // Err(Write)
     pub fn flush(&mut self) -> Result<(), WriteError>
         ensures flushed { FlushesOutcome self.old result self.new }
         ensures within { FitsBuffer self.new }

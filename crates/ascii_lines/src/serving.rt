@@ -96,7 +96,9 @@ impl<K: Sink, A: Allocator> Replies<K, A> {
     /// Returns the writer, which may hold replies.
     ///
     ///     let writer = LineWriter::new(alloc, Output::new(Vec::new(alloc)), 64)?;
-    ///     Replies::new(writer, Ending::Lf).into_writer().into_sink().into_inner() // []
+    ///     let mut replies = Replies::new(writer, Ending::Lf);
+    ///     replies.line(AsciiStr::literal("ab")) // Ok(())
+    ///     replies.into_writer().into_sink().into_inner() // []
     pub fn into_writer(self) -> LineWriter<K, A>
         ensures state { result.state ≡ self.state }
         ensures sink { result.sink ≡ self.sink }
@@ -304,9 +306,10 @@ impl<C: Channel> LineChannel<C> {
     /// error if an allocation fails; the device is then dropped. No later call allocates. These endings end the
     /// lines that come, and this ending the lines that go.
     ///
-    ///     let device = Duplex::new(b"ab\r\n".as_slice(), Vec::new(alloc));
-    ///     let lines = LineChannel::new(alloc, device, 64, Endings::CrLfStrict, Ending::CrLf)?;
-    ///     lines.position() // 0
+    ///     let device = Duplex::new(b"ab\r\nc\n".as_slice(), Vec::new(alloc));
+    ///     let mut lines = LineChannel::new(alloc, device, 64, Endings::CrLfStrict, Ending::CrLf)?;
+    ///     serve(&mut lines, &mut Echo) // Reader(LoneBreak(5))
+    ///     lines.position() // 4
     pub fn new(
         alloc: Global,
         device: C,
@@ -353,9 +356,10 @@ impl<C: Channel, A: Allocator> LineChannel<C, A> {
     /// Returns the device. Bytes that the channel has read, and replies that it has not sent, are lost.
     ///
     ///     let device = Duplex::new(b"ab".as_slice(), Vec::new(alloc));
-    ///     let lines = LineChannel::new(alloc, device, 64, Endings::Any, Ending::Lf)?;
-    ///     let (input, _) = lines.into_device().into_parts();
-    ///     input.into_inner() // [97, 98]
+    ///     let mut lines = LineChannel::new(alloc, device, 64, Endings::Any, Ending::Lf)?;
+    ///     lines.greet(AsciiStr::literal("hi")) // Ok(())
+    ///     let (_, output) = lines.into_device().into_parts();
+    ///     output.into_inner() // []
     pub fn into_device(self) -> C
         ensures device { result ≡ self.device }
         ensures taken { C.Sink.taken result ≡ self.state.output.taken }
