@@ -138,6 +138,7 @@ impl<'a> AsciiStr<'a> {
     /// If that is not known, use `get_ascii`.
     ///
     ///     AsciiStr::literal("foo").char_at(0) // 'f'
+    ///     AsciiStr::literal("foo").char_at(2) // 'o'
     #[inline]
     pub fn char_at(self, i: usize) -> AsciiChar
         requires { i < length (text_of self) }
@@ -149,6 +150,7 @@ impl<'a> AsciiStr<'a> {
     /// Returns the view itself as `Ok`: a view never has to be checked again.
     ///
     ///     AsciiStr::literal("foo").as_ascii_str() // Ok("foo")
+    ///     AsciiStr::literal("").as_ascii_str() // Ok("")
     #[inline]
     pub fn as_ascii_str(self) -> Result<AsciiStr<'a>, AsAsciiStrError>
         ensures { IsOkAnd result (λ view. text_of view ≡ text_of self.entry) }
@@ -287,6 +289,7 @@ impl Default for AsciiStr<'_> {
     /// Returns the empty view.
     ///
     ///     AsciiStr::default() // ""
+    ///     bytes::as_ascii_str(b"ab\xc4").unwrap_or_default() // ""
     fn default() -> Self {
         AsciiStr { bytes: &[] }
     }
@@ -300,6 +303,7 @@ impl<'a> From<AsciiStr<'a>> for &'a str {
     /// Returns the view as a `&str`. Nothing is checked or copied.
     ///
     ///     <&str>::from(AsciiStr::literal("foo")) // "foo"
+    ///     <&str>::from(AsciiStr::literal("")) // ""
     fn from(view: AsciiStr<'a>) -> &'a str {
         view.as_str()
     }
@@ -313,6 +317,7 @@ impl<'a> From<AsciiStr<'a>> for &'a [u8] {
     /// Returns the bytes of the view, one for each character.
     ///
     ///     <&[u8]>::from(AsciiStr::literal("foo")) // [102, 111, 111]
+    ///     <&[u8]>::from(AsciiStr::literal("\0\x7f")) // [0, 127]
     fn from(view: AsciiStr<'a>) -> &'a [u8] {
         view.as_bytes()
     }
@@ -330,6 +335,7 @@ impl fmt::Display for AsciiStr<'_> {
     /// `str`.
     ///
     ///     format!(in alloc; "{}", AsciiStr::literal("a\"b"))? // "a\"b"
+    ///     format!(in alloc; "{:>5.2}", AsciiStr::literal("foo"))? // "   fo"
     fn fmt<W: fmt::Write>(&self, f: &mut fmt::Formatter<W>) -> fmt::Result {
         fmt::Display::fmt(&self.as_str(), f)
     }
@@ -342,7 +348,7 @@ impl fmt::Debug for AsciiStr<'_> {
 
     /// Writes the text in double quotes, escaped as std escapes it.
     ///
-    ///     format!(in alloc; "{:?}", AsciiStr::literal("a\"b"))? // "\"a\\\"b\""
+    ///     format!(in alloc; "{:?}", AsciiStr::literal("a\"\0\x7f"))? // "\"a\\\"\\0\\u{7f}\""
     fn fmt<W: fmt::Write>(&self, f: &mut fmt::Formatter<W>) -> fmt::Result {
         fmt::Debug::fmt(&self.as_str(), f)
     }
@@ -362,6 +368,7 @@ impl AsAsciiStrError {
     /// that checks a source in pieces, and knows where in the source a piece starts.
     ///
     ///     AsAsciiStrError::new(2) // AsAsciiStrError(2)
+    ///     bytes::as_ascii_str(b"ab\xc4") == Err(AsAsciiStrError::new(2)) // true
     #[inline]
     pub fn new(valid_up_to: usize) -> AsAsciiStrError
         ensures { position_of result ≡ valid_up_to }
@@ -373,6 +380,7 @@ impl AsAsciiStrError {
     /// or the length of the source if the range does not fit.
     ///
     ///     bytes::as_ascii_str(b"ab\xc4").map_err(AsAsciiStrError::valid_up_to) // Err(2)
+    ///     bytes::slice_ascii(b"foo", AsciiRange::To(4)).map_err(|e| e.valid_up_to()) // Err(3)
     #[inline]
     pub fn valid_up_to(self) -> usize
         ensures { result ≡ position_of self }
@@ -383,6 +391,7 @@ impl AsAsciiStrError {
     /// Returns the line of the error without the position.
     ///
     ///     bytes::as_ascii_str(b"ab\xc4").map_err(|e| e.description()) // Err("one or more bytes are not ASCII")
+    ///     AsAsciiStrError::new(2).to_string(alloc)? // "the byte at index 2 is not ASCII"
     pub fn description(&self) -> &'static str
         ensures { result.now ≡ codes "one or more bytes are not ASCII" }
     {
@@ -399,6 +408,8 @@ impl fmt::Display for AsAsciiStrError {
     /// range did not fit: the index is then the length of the source.
     ///
     ///     bytes::as_ascii_str(b"ab\xc4").map_err(|e| e.to_string(alloc)) // Err(Ok("the byte at index 2 is not ASCII"))
+    ///     let unfit = bytes::slice_ascii(b"foo", AsciiRange::To(4));
+    ///     unfit.map_err(|e| e.to_string(alloc)) // Err(Ok("the byte at index 3 is not ASCII"))
     fn fmt<W: fmt::Write>(&self, f: &mut fmt::Formatter<W>) -> fmt::Result {
         let position = self.valid_up_to;
         write!(f, "the byte at index {position} is not ASCII")
@@ -409,6 +420,7 @@ impl fmt::Debug for AsAsciiStrError {
     /// Writes the position, as `AsAsciiStrError(2)`.
     ///
     ///     bytes::as_ascii_str(b"ab\xc4") // Err(AsAsciiStrError(2))
+    ///     bytes::slice_ascii(b"foo", AsciiRange::To(4)) // Err(AsAsciiStrError(3))
     fn fmt<W: fmt::Write>(&self, f: &mut fmt::Formatter<W>) -> fmt::Result {
         f.debug_tuple("AsAsciiStrError")
             .field(&self.valid_up_to)

@@ -39,6 +39,8 @@ impl AsciiStrMut<'_> {
     ///     let mut source = *b"foo";
     ///     bytes::as_mut_ascii_str_unchecked(&mut source).set(0, AsciiChar::z);
     ///     source == *b"zoo" // true
+    ///     bytes::as_mut_ascii_str_unchecked(&mut source).set(2, AsciiChar::A);
+    ///     source == *b"zoA" // true
     #[inline]
     pub fn set(&mut self, i: usize, ch: AsciiChar)
         requires { i < length (mut_text_of self.old) }
@@ -50,9 +52,9 @@ impl AsciiStrMut<'_> {
     /// Changes each letter `a` to `z` of the text to `A` to `Z`. The other characters are
     /// unchanged.
     ///
-    ///     let mut source = *b"foo";
+    ///     let mut source = *b"aZ{9";
     ///     bytes::as_mut_ascii_str_unchecked(&mut source).make_ascii_uppercase();
-    ///     source == *b"FOO" // true
+    ///     source == *b"AZ{9" // true
     #[tactic(auto, using(std::proofs::lemmas::Slice::overwrites, crate::proofs::WritingViewLemmas::keeps_ascii))]
     pub fn make_ascii_uppercase(&mut self)
         ensures { EditsTo (map upper_image (mut_text_of self.old)) self.old self.new }
@@ -63,9 +65,9 @@ impl AsciiStrMut<'_> {
     /// Changes each letter `A` to `Z` of the text to `a` to `z`. The other characters are
     /// unchanged.
     ///
-    ///     let mut source = *b"FOO";
+    ///     let mut source = *b"Az[9";
     ///     bytes::as_mut_ascii_str_unchecked(&mut source).make_ascii_lowercase();
-    ///     source == *b"foo" // true
+    ///     source == *b"az[9" // true
     #[tactic(auto, using(std::proofs::lemmas::Slice::overwrites, crate::proofs::WritingViewLemmas::keeps_ascii))]
     pub fn make_ascii_lowercase(&mut self)
         ensures { EditsTo (map lower_image (mut_text_of self.old)) self.old self.new }
@@ -76,7 +78,8 @@ impl AsciiStrMut<'_> {
     /// Returns a view of the text, to read it.
     ///
     ///     let mut source = *b"foo";
-    ///     bytes::as_mut_ascii_str_unchecked(&mut source).as_ascii_str().len() // 3
+    ///     bytes::as_mut_ascii_str_unchecked(&mut source).as_ascii_str() // "foo"
+    ///     bytes::as_mut_ascii_str_unchecked(&mut []).as_ascii_str() // ""
     #[inline]
     pub fn as_ascii_str(&self) -> AsciiStr<'_>
         ensures { text_of result ≡ mut_text_of self.now }

@@ -13,9 +13,10 @@
 //! A call in the middle column scans the bytes once, and returns an error with a position in the source. A call in the
 //! last column checks nothing; it has a condition, which its caller has to prove.
 //!
-//!     bytes::slice_ascii(b"ab\xc4d", AsciiRange::To(2))
+//!     bytes::slice_ascii(b"ab\xc4d", AsciiRange::To(2)) // Ok("ab")
+//!     bytes::slice_ascii(b"ab\xc4d", AsciiRange::To(3)) // Err(AsAsciiStrError(2))
 //!
-//! is a view of `ab`: the byte 0xc4, which is not ASCII, is outside the range.
+//! The byte 0xc4, which is not ASCII, is outside the first range and inside the second one.
 //!
 //! Only `to_ascii_string` allocates.
 
@@ -59,6 +60,7 @@ pub fn as_ascii_str(source: &[u8]) -> Result<AsciiStr<'_>, AsAsciiStrError>
 /// This is `as_ascii_str` under the name that upstream's `AsciiStr::from_ascii` has.
 ///
 ///     bytes::from_ascii(b"foo") // Ok("foo")
+///     bytes::from_ascii(b"ab\xc4") // Err(AsAsciiStrError(2))
 pub fn from_ascii(source: &[u8]) -> Result<AsciiStr<'_>, AsAsciiStrError>
     ensures outcome { SliceOutcome source.now AsciiRange.Full result }
     ensures ascii { OnOk result (IsAscii source.now) }
@@ -102,6 +104,7 @@ pub fn get_ascii(source: &[u8], i: usize) -> Option<AsciiChar>
 /// Condition: every byte of `source` is ASCII.
 ///
 ///     bytes::as_ascii_str_unchecked(b"foo") // "foo"
+///     bytes::as_ascii_str_unchecked(b"\x7f") // "\u{7f}"
 #[inline]
 pub fn as_ascii_str_unchecked(source: &[u8]) -> AsciiStr<'_>
     requires { IsAscii source.now }
@@ -116,6 +119,7 @@ pub fn as_ascii_str_unchecked(source: &[u8]) -> AsciiStr<'_>
 /// Condition: every byte of `source` is ASCII.
 ///
 ///     bytes::from_ascii_unchecked(b"foo") // "foo"
+///     bytes::from_ascii_unchecked(b"") // ""
 #[inline]
 pub fn from_ascii_unchecked(source: &[u8]) -> AsciiStr<'_>
     requires { IsAscii source.now }

@@ -17,9 +17,10 @@ use ascii_base::range::AsciiRange;
 ///
 /// Condition: the range fits, and every byte of the source in it is ASCII.
 ///
-///     let mut source = *b"foo";
-///     bytes::slice_ascii_mut_unchecked(&mut source, AsciiRange::From(1)).make_ascii_uppercase();
-///     source == *b"fOO" // true
+///     let mut source = *b"foo\xc4";
+///     bytes::slice_ascii_mut_unchecked(&mut source, AsciiRange::To(2)).make_ascii_uppercase();
+///     source == *b"FOo\xc4" // true
+///     bytes::slice_ascii_mut_unchecked(&mut [196], AsciiRange::To(0)).as_ascii_str() // ""
 #[inline]
 pub fn slice_ascii_mut_unchecked(source: &mut [u8], range: AsciiRange) -> AsciiStrMut<'_>
     requires fits { Fits range (length source.old) }
@@ -42,6 +43,7 @@ pub fn slice_ascii_mut_unchecked(source: &mut [u8], range: AsciiRange) -> AsciiS
 ///     let mut source = *b"foo";
 ///     bytes::as_mut_ascii_str_unchecked(&mut source).make_ascii_uppercase();
 ///     source == *b"FOO" // true
+///     bytes::as_mut_ascii_str_unchecked(&mut []).as_ascii_str() // ""
 #[inline]
 pub fn as_mut_ascii_str_unchecked(source: &mut [u8]) -> AsciiStrMut<'_>
     requires { IsAscii source.old }
@@ -63,6 +65,7 @@ pub fn as_mut_ascii_str_unchecked(source: &mut [u8]) -> AsciiStrMut<'_>
 ///         view.make_ascii_uppercase();
 ///     }
 ///     source == *b"FOo\xc4" // true
+///     bytes::slice_ascii_mut(&mut source, AsciiRange::From(2)).err() // Some(AsAsciiStrError(3))
 pub fn slice_ascii_mut(
     source: &mut [u8],
     range: AsciiRange,
@@ -91,6 +94,7 @@ pub fn slice_ascii_mut(
 ///         view.make_ascii_uppercase();
 ///     }
 ///     source == *b"FOO" // true
+///     bytes::as_mut_ascii_str(&mut [97, 98, 196]).err() // Some(AsAsciiStrError(2))
 pub fn as_mut_ascii_str(source: &mut [u8]) -> Result<AsciiStrMut<'_>, AsAsciiStrError>
     ensures outcome { MutSliceOutcome source.old AsciiRange.Full result }
     ensures lender { IfOk result (λ v. borrow_of v ≡ source.entry.ghost_name) }

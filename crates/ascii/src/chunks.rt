@@ -2,9 +2,11 @@
 //! bytes. No call of this module allocates.
 //!
 //!     let mut chunks = bytes::ascii_chunks(b"na\xc3\xafve");
+//!     chunks.next() // Some(AsciiChunk { start: 0, run: Ascii("na") })
+//!     chunks.next() // Some(AsciiChunk { start: 2, run: Other([195, 175]) })
 //!
-//! yields the view `na`, two other bytes, and the view `ve`, with the starts 0, 2 and 4. Joined, the
-//! chunks are the source. For text whose encoding is UTF-8, use `utf8_chunks` of std.
+//! The chunks are the view `na`, two other bytes, and the view `ve`, with the starts 0, 2 and 4.
+//! Joined, the chunks are the source. For text whose encoding is UTF-8, use `utf8_chunks` of std.
 //!
 //! A contract sees the iterator as the bytes whose chunks it has yet to yield, with their start.
 
@@ -92,6 +94,7 @@ impl<'a> Iterator for AsciiChunks<'a> {
     /// Returns the next chunk, or `None` if there are none left; it then keeps returning `None`.
     ///
     ///     bytes::ascii_chunks(b"\xc4ab").next() // Some(AsciiChunk { start: 0, run: Other([196]) })
+    ///     bytes::ascii_chunks(b"").next() // None
     fn next(&mut self) -> Option<AsciiChunk<'a>> {
         let bytes = self.rest;
         let start = self.start;
@@ -115,6 +118,7 @@ impl<'a> DoubleEndedIterator for AsciiChunks<'a> {
     /// returning `None`.
     ///
     ///     bytes::ascii_chunks(b"\xc4ab").next_back() // Some(AsciiChunk { start: 1, run: Ascii("ab") })
+    ///     bytes::ascii_chunks(b"").next_back() // None
     fn next_back(&mut self) -> Option<AsciiChunk<'a>> {
         let bytes = self.rest;
         let ascii = *bytes.last()? < 128;

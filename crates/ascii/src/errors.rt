@@ -20,6 +20,7 @@ impl<O> fmt::Display for CopyError<O> {
     /// Writes the line of the error: that of the position, or `no memory`.
     ///
     ///     text::to_ascii_string(alloc, "abč").map_err(|e| e.to_string(alloc)) // Err(Ok("the byte at index 2 is not ASCII"))
+    ///     CopyError::<&str>::Memory(AllocError).to_string(alloc)? // "no memory"
     fn fmt<W: fmt::Write>(&self, f: &mut fmt::Formatter<W>) -> fmt::Result {
         match self {
             CopyError::NotAscii(error) => fmt::Display::fmt(error, f),

@@ -20,6 +20,7 @@ impl<O> FromAsciiError<O> {
     /// Returns why the source was rejected: the position of its first non-ASCII byte.
     ///
     ///     vec::into_ascii_string(Vec::from_slice(alloc, b"ab\xc4")?).map_err(|e| e.ascii_error()) // Err(AsAsciiStrError(2))
+    ///     vec::into_ascii_string(Vec::new(alloc)).map_err(|e| e.ascii_error()) // Ok("")
     #[inline]
     pub fn ascii_error(&self) -> AsAsciiStrError
         ensures { result ≡ ascii_error_of self.now }
@@ -30,6 +31,7 @@ impl<O> FromAsciiError<O> {
     /// Returns the source, unchanged.
     ///
     ///     vec::into_ascii_string(Vec::from_slice(alloc, b"ab\xc4")?).map_err(|e| e.into_source()) // Err([97, 98, 196])
+    ///     string::into_ascii_string(String::new(alloc)).map_err(|e| e.into_source()) // Ok("")
     #[inline]
     pub fn into_source(self) -> O
         ensures { result ≡ source_of self }
@@ -48,6 +50,7 @@ impl<O> fmt::Display for FromAsciiError<O> {
     /// Writes the line of the position, as `the byte at index 2 is not ASCII`.
     ///
     ///     vec::into_ascii_string(Vec::from_slice(alloc, b"ab\xc4")?).map_err(|e| e.to_string(alloc)) // Err(Ok("the byte at index 2 is not ASCII"))
+    ///     vec::into_ascii_string(Vec::new(alloc)).map_err(|e| e.to_string(alloc)) // Ok("")
     fn fmt<W: fmt::Write>(&self, f: &mut fmt::Formatter<W>) -> fmt::Result {
         fmt::Display::fmt(&self.error, f)
     }
@@ -57,6 +60,7 @@ impl<O> fmt::Debug for FromAsciiError<O> {
     /// Writes the error for a programmer. No contract states this text.
     ///
     ///     vec::into_ascii_string(Vec::from_slice(alloc, b"ab\xc4")?) // Err(AsAsciiStrError(2))
+    ///     string::into_ascii_string(String::from_str(alloc, "č")?) // Err(AsAsciiStrError(0))
     fn fmt<W: fmt::Write>(&self, f: &mut fmt::Formatter<W>) -> fmt::Result {
         fmt::Debug::fmt(&self.error, f)
     }

@@ -42,6 +42,7 @@ pub fn as_ascii_str(source: &str) -> Result<AsciiStr<'_>, AsAsciiStrError>
 /// has.
 ///
 ///     text::from_ascii("foo") // Ok("foo")
+///     text::from_ascii("abč") // Err(AsAsciiStrError(2))
 pub fn from_ascii(source: &str) -> Result<AsciiStr<'_>, AsAsciiStrError>
     ensures { SliceOutcome source.now AsciiRange.Full result }
 {
@@ -83,6 +84,7 @@ impl<'a> AsciiStr<'a> {
     /// is not ASCII does not compile; nothing is checked at run time.
     ///
     ///     AsciiStr::literal("GET") // "GET"
+    ///     AsciiStr::literal("\t\x7f") // "\t\u{7f}"
     #[inline]
     #[tactic(auto, using(crate::proofs::CallerLemmas::ascii_by_test))]
     pub fn literal(text: &'a str) -> AsciiStr<'a>
@@ -98,6 +100,7 @@ impl<'a> AsciiStr<'a> {
 /// Condition: every byte of `source` is ASCII.
 ///
 ///     text::as_ascii_str_unchecked("foo") // "foo"
+///     text::as_ascii_str_unchecked("\x7f") // "\u{7f}"
 #[inline]
 pub fn as_ascii_str_unchecked(source: &str) -> AsciiStr<'_>
     requires { IsAscii source.now }
@@ -112,6 +115,7 @@ pub fn as_ascii_str_unchecked(source: &str) -> AsciiStr<'_>
 /// Condition: every byte of `source` is ASCII.
 ///
 ///     text::from_ascii_unchecked("foo") // "foo"
+///     text::from_ascii_unchecked("") // ""
 #[inline]
 pub fn from_ascii_unchecked(source: &str) -> AsciiStr<'_>
     requires { IsAscii source.now }
@@ -126,6 +130,7 @@ pub fn from_ascii_unchecked(source: &str) -> AsciiStr<'_>
 /// The bytes are checked before anything is allocated. A copy of the empty text never fails.
 ///
 ///     text::to_ascii_string(alloc, "foo") // Ok("foo")
+///     text::to_ascii_string(alloc, "abč") // Err(NotAscii(AsAsciiStrError(2)))
 pub fn to_ascii_string<A: Allocator>(
     alloc: A,
     source: &str,
