@@ -4,8 +4,9 @@
 //! new text fits the capacity, so a caller that reserves first knows that the edits after it succeed:
 //!
 //!     let mut line = AsciiString::with_capacity(alloc, 3)?;
-//!     line.push(AsciiChar::a)?;
-//!     line.push_str(AsciiStr::literal("bc"))?;
+//!     line.push(AsciiChar::a) // Ok(())
+//!     line.push_str(AsciiStr::literal("bc")) // Ok(())
+//!     line // "abc"
 //!
 //! A contract sees a string as `string.text`, a list of codes, and `string.capacity`.
 //!
@@ -78,6 +79,7 @@ impl<B: NewBuffer> Text<B> {
     /// To make room at once, use `with_capacity`; for a copy of a view, `to_ascii_string`.
     ///
     ///     AsciiString::new(alloc).len() // 0
+    ///     AsciiString::new(alloc).capacity() // 0
     #[inline]
     pub fn new(alloc: B::Alloc) -> Text<B>
         ensures text { result.text ≡ [] }
@@ -92,6 +94,7 @@ impl<B: NewBuffer> Text<B> {
     /// allocation fails.
     ///
     ///     AsciiString::with_capacity(alloc, 10)?.capacity() >= 10 // true
+    ///     AsciiString::with_capacity(alloc, usize::MAX) // Err(AllocError)
     pub fn with_capacity(alloc: B::Alloc, capacity: usize) -> Result<Text<B>, B::Refusal>
         ensures text { IfOk result (λ string. string.text ≡ []) }
         ensures capacity { IfOk result (λ string. capacity ≤ string.capacity) }
@@ -109,6 +112,7 @@ impl<B: NewBuffer> Text<B> {
     /// Allocates at most once, for the length of the view.
     ///
     ///     AsciiString::from_ascii_str(alloc, AsciiStr::literal("foo"))? // "foo"
+    ///     AsciiString::from_ascii_str(alloc, AsciiStr::literal(""))?.capacity() // 0
     pub fn from_ascii_str(alloc: B::Alloc, view: AsciiStr<'_>) -> Result<Text<B>, B::Refusal>
         ensures text { IfOk result (λ string. string.text ≡ text_of view.entry) }
         ensures room { IfOk result (λ string. length string.text ≤ string.capacity) }
@@ -128,6 +132,7 @@ impl<B: Buffer> Text<B> {
     /// Returns a view of the whole text.
     ///
     ///     AsciiStr::literal("foo").to_ascii_string(alloc)?.as_ascii_str() // "foo"
+    ///     AsciiString::new(alloc).as_ascii_str() // ""
     #[inline]
     pub fn as_ascii_str(&self) -> AsciiStr<'_>
         ensures { text_of result ≡ self.now.text }
@@ -140,6 +145,7 @@ impl<B: Buffer> Text<B> {
     /// Returns the number of bytes up to which the text does not have to grow: at least its length.
     ///
     ///     AsciiString::new(alloc).capacity() // 0
+    ///     AsciiStr::literal("foo").to_ascii_string(alloc)?.capacity() >= 3 // true
     #[inline]
     pub fn capacity(&self) -> usize
         ensures capacity { result ≡ self.now.capacity }
@@ -154,6 +160,7 @@ impl<B: Buffer> Text<B> {
     /// grown into an allocation remains there.
     ///
     ///     AsciiString::new(alloc).is_inline() // true
+    ///     AsciiStr::literal("foo").to_ascii_string(alloc)?.is_inline() // false
     #[inline]
     pub fn is_inline(&self) -> bool
         ensures { IsTrue result ↔ (self.now.capacity ≡ B.sure) }
@@ -344,6 +351,7 @@ impl<B: Buffer> Text<B> {
     ///     let mut text = AsciiStr::literal("foo").to_ascii_string(alloc)?;
     ///     text.clear();
     ///     text // ""
+    ///     text.capacity() >= 3 // true
     #[inline]
     pub fn clear(&mut self)
         ensures { EditsInPlace [] self.old self.new }
@@ -358,6 +366,8 @@ impl<B: Buffer> Text<B> {
     ///     let mut text = AsciiStr::literal("foo").to_ascii_string(alloc)?;
     ///     text.set(0, AsciiChar::z);
     ///     text // "zoo"
+    ///     text.set(2, AsciiChar::A);
+    ///     text // "zoA"
     #[inline]
     pub fn set(&mut self, i: usize, ch: AsciiChar)
         requires { i < length self.old.text }
@@ -368,9 +378,9 @@ impl<B: Buffer> Text<B> {
 
     /// Changes each letter `a` to `z` to `A` to `Z`. Every other character is unchanged.
     ///
-    ///     let mut text = AsciiStr::literal("foo").to_ascii_string(alloc)?;
+    ///     let mut text = AsciiStr::literal("aZ{9").to_ascii_string(alloc)?;
     ///     text.make_ascii_uppercase();
-    ///     text // "FOO"
+    ///     text // "AZ{9"
     pub fn make_ascii_uppercase(&mut self)
         ensures { EditsInPlace (map upper_image self.old.text) self.old self.new }
     {
@@ -379,9 +389,9 @@ impl<B: Buffer> Text<B> {
 
     /// Changes each letter `A` to `Z` to `a` to `z`. Every other character is unchanged.
     ///
-    ///     let mut text = AsciiStr::literal("FOO").to_ascii_string(alloc)?;
+    ///     let mut text = AsciiStr::literal("Az[9").to_ascii_string(alloc)?;
     ///     text.make_ascii_lowercase();
-    ///     text // "foo"
+    ///     text // "az[9"
     pub fn make_ascii_lowercase(&mut self)
         ensures { EditsInPlace (map lower_image self.old.text) self.old self.new }
     {
@@ -391,6 +401,7 @@ impl<B: Buffer> Text<B> {
     /// Returns the number of characters, which is also the number of bytes.
     ///
     ///     AsciiStr::literal("foo").to_ascii_string(alloc)?.len() // 3
+    ///     AsciiString::with_capacity(alloc, 10)?.len() // 0
     #[inline]
     pub fn len(&self) -> usize
         ensures { result ≡ length self.now.text }
@@ -433,6 +444,7 @@ impl<A: Allocator> Text<Vec<u8, A>> {
     /// Condition: every byte is ASCII.
     ///
     ///     AsciiString::from_ascii_unchecked(Vec::from_slice(alloc, b"foo")?) // "foo"
+    ///     AsciiString::from_ascii_unchecked(Vec::from_slice(alloc, b"\x7f")?) // "\u{7f}"
     #[inline]
     pub fn from_ascii_unchecked(bytes: Vec<u8, A>) -> AsciiString<A>
         requires { IsAscii bytes.items }
@@ -470,6 +482,8 @@ impl<B: InlineBuffer> Text<B> {
     /// fail. An inline text is copied: if the allocation fails, returns the string as the error.
     ///
     ///     SmallAsciiString::from_ascii_str(alloc, AsciiStr::literal("foo"))?.into_ascii_string().ok() // Some("foo")
+    ///     let allocated = SmallAsciiString::with_capacity(alloc, 30)?;
+    ///     allocated.into_ascii_string().map(|it| it.capacity() >= 30).ok() // Some(true)
     pub fn into_ascii_string(self) -> Result<AsciiString, Text<B>>
         ensures ok { IfOk result (λ string. string.text ≡ self.text) }
         ensures err { IfErr result (λ string. string ≡ self) }
@@ -491,6 +505,7 @@ impl<B: CloneBuffer> Clone for Text<B> {
     /// fails; never for a `SmallAsciiString` of at most 24 characters, or an `ArrayAsciiString`.
     ///
     ///     AsciiStr::literal("foo").to_ascii_string(alloc)?.clone()? // "foo"
+    ///     AsciiString::new(alloc).clone()? // ""
     fn clone(&self) -> Result<Text<B>, AllocError>
         ensures cases { MatchResult result (λ copy. copy.text ≡ self.now.text)
             (λ _. ¬ (B.copies self.now)) }
@@ -515,7 +530,8 @@ impl<B: Buffer> PartialEq for Text<B> {
 
     /// Returns `true` if the two texts are equal.
     ///
-    ///     AsciiStr::literal("foo").to_ascii_string(alloc)? == AsciiStr::literal("foo").to_ascii_string(alloc)? // true
+    ///     AsciiString::with_capacity(alloc, 10)? == AsciiString::new(alloc) // true
+    ///     AsciiString::from_char(alloc, AsciiChar::a)? == AsciiString::new(alloc) // false
     fn eq(&self, other: &Text<B>) -> bool {
         self.as_ascii_str() == other.as_ascii_str()
     }
@@ -542,7 +558,9 @@ impl<B: Buffer> PartialOrd for Text<B> {
 
     /// Returns the order of the two texts: that of `cmp`.
     ///
-    ///     AsciiStr::literal("foo").to_ascii_string(alloc)? < AsciiStr::literal("fop").to_ascii_string(alloc)? // true
+    ///     let text = AsciiStr::literal("foo").to_ascii_string(alloc)?;
+    ///     text < AsciiStr::literal("fop").to_ascii_string(alloc)? // true
+    ///     text < AsciiStr::literal("Fop").to_ascii_string(alloc)? // false
     fn partial_cmp(&self, other: &Text<B>) -> Option<Ordering> {
         Some(self.cmp(other))
     }
@@ -565,6 +583,7 @@ impl<B: Buffer> Ord for Text<B> {
     /// Returns the order of the two texts: lexicographic, by the codes.
     ///
     ///     AsciiStr::literal("foo").to_ascii_string(alloc)?.cmp(&AsciiStr::literal("fo").to_ascii_string(alloc)?) // Greater
+    ///     AsciiString::new(alloc).cmp(&AsciiString::with_capacity(alloc, 10)?) // Equal
     fn cmp(&self, other: &Text<B>) -> Ordering {
         self.as_ascii_str().cmp(&other.as_ascii_str())
     }
@@ -582,8 +601,8 @@ impl<B: Buffer> Hash for Text<B> {
     /// Hashes the text as a view of it is hashed.
     ///
     ///     let mut seen = HashSet::new(alloc);
-    ///     seen.insert(AsciiStr::literal("foo").to_ascii_string(alloc)?)?;
-    ///     seen.contains(&AsciiStr::literal("foo").to_ascii_string(alloc)?) // true
+    ///     seen.insert(AsciiString::new(alloc))? // true
+    ///     seen.insert(AsciiString::with_capacity(alloc, 10)?)? // false
     fn hash<H: Hasher>(&self, state: &mut H) {
         self.as_ascii_str().hash(state);
     }
@@ -601,6 +620,7 @@ impl<B: Buffer> fmt::Display for Text<B> {
     /// `str`.
     ///
     ///     format!(in alloc; "{}", AsciiStr::literal("foo").to_ascii_string(alloc)?)? // "foo"
+    ///     format!(in alloc; "{:->3}", AsciiString::new(alloc))? // "---"
     fn fmt<W: fmt::Write>(&self, f: &mut fmt::Formatter<W>) -> fmt::Result {
         fmt::Display::fmt(&self.as_ascii_str(), f)
     }
@@ -615,6 +635,7 @@ impl<B: Buffer> fmt::Debug for Text<B> {
     /// Writes the text in double quotes, escaped as std escapes it.
     ///
     ///     format!(in alloc; "{:?}", AsciiStr::literal("foo").to_ascii_string(alloc)?)? // "\"foo\""
+    ///     format!(in alloc; "{:?}", AsciiStr::literal("\n").to_ascii_string(alloc)?)? // "\"\\n\""
     fn fmt<W: fmt::Write>(&self, f: &mut fmt::Formatter<W>) -> fmt::Result {
         fmt::Debug::fmt(&self.as_ascii_str(), f)
     }
@@ -674,6 +695,7 @@ impl<A: Allocator> From<AsciiString<A>> for Vec<u8, A> {
     /// Converts the string into its bytes, keeping the buffer. Cannot fail.
     ///
     ///     Vec::from(AsciiStr::literal("foo").to_ascii_string(alloc)?) // [102, 111, 111]
+    ///     Vec::from(AsciiString::with_capacity(alloc, 10)?).capacity() >= 10 // true
     fn from(string: AsciiString<A>) -> Vec<u8, A> {
         string.bytes
     }
@@ -688,6 +710,7 @@ impl<A: Allocator> From<AsciiString<A>> for String<A> {
     /// Converts the string into a `String`, keeping the buffer. Cannot fail.
     ///
     ///     String::from(AsciiStr::literal("foo").to_ascii_string(alloc)?) // "foo"
+    ///     String::from(AsciiString::with_capacity(alloc, 10)?).capacity() >= 10 // true
     fn from(string: AsciiString<A>) -> String<A> {
         unsafe { String::from_utf8_unchecked(string.bytes) }
     }

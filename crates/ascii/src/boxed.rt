@@ -41,6 +41,7 @@ impl<S: AsStr> Kept<S> {
     /// Returns a view of the text.
     ///
     ///     BoxedAsciiStr::from_ascii_str(alloc, AsciiStr::literal("foo"))?.as_ascii_str().len() // 3
+    ///     RcAsciiStr::from_ascii_str(alloc, AsciiStr::literal(""))?.as_ascii_str() // ""
     #[inline]
     pub fn as_ascii_str(&self) -> AsciiStr<'_>
         ensures { text_of result ≡ self.now }
@@ -55,6 +56,7 @@ impl<A: Allocator> Kept<BoxedStr<A>> {
     /// Returns a copy of a view in a box. Fails only if the allocation fails.
     ///
     ///     BoxedAsciiStr::from_ascii_str(alloc, AsciiStr::literal("foo"))?.as_ascii_str() // "foo"
+    ///     BoxedAsciiStr::from_ascii_str(alloc, AsciiStr::literal(""))?.as_ascii_str() // ""
     pub fn from_ascii_str(alloc: A, view: AsciiStr<'_>) -> Result<BoxedAsciiStr<A>, AllocError>
         ensures { IfOk result (λ boxed. boxed ≡ text_of view.entry) }
     {
@@ -66,6 +68,8 @@ impl<A: Allocator> Kept<BoxedStr<A>> {
     /// Converts the box into a string that can grow, keeping its buffer. Always returns `Ok`.
     ///
     ///     BoxedAsciiStr::from_ascii_str(alloc, AsciiStr::literal("foo"))?.into_ascii_string().ok() // Some("foo")
+    ///     let empty = BoxedAsciiStr::from_ascii_str(alloc, AsciiStr::literal(""))?;
+    ///     empty.into_ascii_string().ok() // Some("")
     pub fn into_ascii_string(self) -> Result<AsciiString<A>, BoxedAsciiStr<A>>
         ensures { IsOkAnd result (λ string. string.text ≡ self) }
     {
@@ -76,6 +80,7 @@ impl<A: Allocator> Kept<BoxedStr<A>> {
     /// Converts the box into a boxed `str`, keeping its buffer. Cannot fail.
     ///
     ///     BoxedAsciiStr::from_ascii_str(alloc, AsciiStr::literal("foo"))?.into_boxed_str() // "foo"
+    ///     BoxedAsciiStr::from_ascii_str(alloc, AsciiStr::literal(""))?.into_boxed_str() // ""
     pub fn into_boxed_str(self) -> BoxedStr<A>
         ensures { boxed_str_bytes result ≡ self }
     {
@@ -87,6 +92,7 @@ impl<A: Allocator> Kept<RcStr<A>> {
     /// Returns a shared copy of a view. Fails only if the allocation fails.
     ///
     ///     RcAsciiStr::from_ascii_str(alloc, AsciiStr::literal("foo"))?.as_ascii_str() // "foo"
+    ///     RcAsciiStr::from_ascii_str(alloc, AsciiStr::literal(""))?.as_ascii_str() // ""
     pub fn from_ascii_str(alloc: A, view: AsciiStr<'_>) -> Result<RcAsciiStr<A>, AllocError>
     where
         A: Clone,
@@ -104,7 +110,9 @@ impl<A: Allocator> Clone for Kept<RcStr<A>> {
 
     /// Returns one more owner of the text. Does not allocate.
     ///
-    ///     RcAsciiStr::from_ascii_str(alloc, AsciiStr::literal("foo"))?.clone()?.as_ascii_str() // "foo"
+    ///     let shared = RcAsciiStr::from_ascii_str(alloc, AsciiStr::literal("foo"))?;
+    ///     shared.clone()? // "foo"
+    ///     shared.clone()? == shared // true
     fn clone(&self) -> Result<RcAsciiStr<A>, AllocError> {
         Ok(Kept {
             text: self.text.clone()?,
@@ -116,6 +124,7 @@ impl<A: Allocator> Text<Vec<u8, A>> {
     /// Converts the string into boxed text, keeping its buffer. Always returns `Ok`.
     ///
     ///     AsciiStr::literal("foo").to_ascii_string(alloc)?.into_boxed_ascii_str().is_ok() // true
+    ///     AsciiString::new(alloc).into_boxed_ascii_str().ok() // Some("")
     pub fn into_boxed_ascii_str(self) -> Result<BoxedAsciiStr<A>, AsciiString<A>>
         ensures { IsOkAnd result (λ boxed. boxed ≡ self.text) }
     {
@@ -127,6 +136,7 @@ impl<A: Allocator> Text<Vec<u8, A>> {
     /// the string as the error.
     ///
     ///     AsciiStr::literal("foo").to_ascii_string(alloc)?.into_rc_ascii_str(alloc).is_ok() // true
+    ///     AsciiString::new(alloc).into_rc_ascii_str(alloc).ok() // Some("")
     pub fn into_rc_ascii_str<B: Allocator + Clone>(
         self,
         alloc: B,
@@ -157,6 +167,7 @@ impl<'a, A: Allocator> CowAsciiStr<'a, A> {
     ///
     ///     let cow: CowAsciiStr = AsciiStr::literal("foo").into();
     ///     cow.as_ascii_str() // "foo"
+    ///     CowAsciiStr::Owned(AsciiString::new(alloc)).as_ascii_str() // ""
     pub fn as_ascii_str(&self) -> AsciiStr<'_>
         ensures { text_of result ≡ cow_text self.now }
     {
@@ -171,6 +182,7 @@ impl<'a, A: Allocator> CowAsciiStr<'a, A> {
     ///
     ///     let cow: CowAsciiStr = AsciiStr::literal("foo").into();
     ///     cow.into_owned(alloc).ok() // Some("foo")
+    ///     CowAsciiStr::Owned(AsciiString::new(alloc)).into_owned(alloc).ok() // Some("")
     pub fn into_owned(self, alloc: A) -> Result<AsciiString<A>, CowAsciiStr<'a, A>>
         ensures ok { IfOk result (λ string. string.text ≡ cow_text self.entry) }
         ensures owned { OwnedStays self.entry result }
@@ -194,6 +206,7 @@ impl<'a, A: Allocator> From<AsciiStr<'a>> for CowAsciiStr<'a, A> {
     ///
     ///     let cow: CowAsciiStr = AsciiStr::literal("foo").into();
     ///     cow.as_ascii_str() // "foo"
+    ///     matches!(cow, CowAsciiStr::Borrowed(_)) // true
     fn from(view: AsciiStr<'a>) -> CowAsciiStr<'a, A> {
         CowAsciiStr::Borrowed(view)
     }
@@ -208,6 +221,7 @@ impl<'a, A: Allocator> From<AsciiString<A>> for CowAsciiStr<'a, A> {
     ///
     ///     let cow: CowAsciiStr = AsciiStr::literal("foo").to_ascii_string(alloc)?.into();
     ///     cow.as_ascii_str() // "foo"
+    ///     matches!(cow, CowAsciiStr::Borrowed(_)) // false
     fn from(string: AsciiString<A>) -> CowAsciiStr<'a, A> {
         CowAsciiStr::Owned(string)
     }

@@ -22,7 +22,9 @@ impl<S: AsStr> PartialEq for Kept<S> {
 
     /// Returns `true` if the two texts are equal.
     ///
-    ///     BoxedAsciiStr::from_ascii_str(alloc, AsciiStr::literal("foo"))? == BoxedAsciiStr::from_ascii_str(alloc, AsciiStr::literal("foo"))? // true
+    ///     let boxed = BoxedAsciiStr::from_ascii_str(alloc, AsciiStr::literal("foo"))?;
+    ///     boxed == BoxedAsciiStr::from_ascii_str(alloc, AsciiStr::literal("foo"))? // true
+    ///     boxed == BoxedAsciiStr::from_ascii_str(alloc, AsciiStr::literal("Foo"))? // false
     fn eq(&self, other: &Kept<S>) -> bool {
         self.as_ascii_str() == other.as_ascii_str()
     }
@@ -40,7 +42,9 @@ impl<S: AsStr> PartialOrd for Kept<S> {
 
     /// Returns the order of the two texts: that of `cmp`.
     ///
-    ///     BoxedAsciiStr::from_ascii_str(alloc, AsciiStr::literal("foo"))? < BoxedAsciiStr::from_ascii_str(alloc, AsciiStr::literal("fop"))? // true
+    ///     let boxed = BoxedAsciiStr::from_ascii_str(alloc, AsciiStr::literal("foo"))?;
+    ///     boxed < BoxedAsciiStr::from_ascii_str(alloc, AsciiStr::literal("fop"))? // true
+    ///     boxed < BoxedAsciiStr::from_ascii_str(alloc, AsciiStr::literal("Fop"))? // false
     fn partial_cmp(&self, other: &Kept<S>) -> Option<Ordering> {
         Some(self.cmp(other))
     }
@@ -57,7 +61,9 @@ impl<S: AsStr> Ord for Kept<S> {
 
     /// Returns the order of the two texts: lexicographic, by the codes.
     ///
-    ///     BoxedAsciiStr::from_ascii_str(alloc, AsciiStr::literal("foo"))?.cmp(&BoxedAsciiStr::from_ascii_str(alloc, AsciiStr::literal("fo"))?) // Greater
+    ///     let boxed = BoxedAsciiStr::from_ascii_str(alloc, AsciiStr::literal("foo"))?;
+    ///     boxed.cmp(&BoxedAsciiStr::from_ascii_str(alloc, AsciiStr::literal("fo"))?) // Greater
+    ///     boxed.cmp(&BoxedAsciiStr::from_ascii_str(alloc, AsciiStr::literal("z"))?) // Less
     fn cmp(&self, other: &Kept<S>) -> Ordering {
         self.as_ascii_str().cmp(&other.as_ascii_str())
     }
@@ -71,8 +77,8 @@ impl<S: AsStr> Hash for Kept<S> {
     /// Hashes the text as a view of it is hashed.
     ///
     ///     let mut seen = HashSet::new(alloc);
-    ///     seen.insert(BoxedAsciiStr::from_ascii_str(alloc, AsciiStr::literal("foo"))?)?;
-    ///     seen.contains(&BoxedAsciiStr::from_ascii_str(alloc, AsciiStr::literal("foo"))?) // true
+    ///     seen.insert(BoxedAsciiStr::from_ascii_str(alloc, AsciiStr::literal("foo"))?)? // true
+    ///     seen.insert(BoxedAsciiStr::from_ascii_str(alloc, AsciiStr::literal("foo"))?)? // false
     fn hash<H: Hasher>(&self, state: &mut H) {
         self.as_ascii_str().hash(state);
     }
@@ -85,7 +91,9 @@ impl<A: Allocator> PartialEq for CowAsciiStr<'_, A> {
 
     /// Returns `true` if the two texts are equal, whether borrowed or owned.
     ///
-    ///     CowAsciiStr::<Global>::from(AsciiStr::literal("foo")) == CowAsciiStr::<Global>::from(AsciiStr::literal("foo")) // true
+    ///     let cow: CowAsciiStr = AsciiStr::literal("foo").into();
+    ///     cow == CowAsciiStr::Owned(AsciiStr::literal("foo").to_ascii_string(alloc)?) // true
+    ///     cow == CowAsciiStr::Borrowed(AsciiStr::literal("Foo")) // false
     fn eq(&self, other: &CowAsciiStr<'_, A>) -> bool {
         self.as_ascii_str() == other.as_ascii_str()
     }
@@ -103,7 +111,9 @@ impl<A: Allocator> PartialOrd for CowAsciiStr<'_, A> {
 
     /// Returns the order of the two texts: that of `cmp`.
     ///
-    ///     CowAsciiStr::<Global>::from(AsciiStr::literal("foo")) < CowAsciiStr::<Global>::from(AsciiStr::literal("fop")) // true
+    ///     let cow: CowAsciiStr = AsciiStr::literal("foo").into();
+    ///     cow < CowAsciiStr::Borrowed(AsciiStr::literal("fop")) // true
+    ///     cow < CowAsciiStr::Borrowed(AsciiStr::literal("Fop")) // false
     fn partial_cmp(&self, other: &CowAsciiStr<'_, A>) -> Option<Ordering> {
         Some(self.cmp(other))
     }
@@ -120,7 +130,9 @@ impl<A: Allocator> Ord for CowAsciiStr<'_, A> {
 
     /// Returns the order of the two texts: lexicographic, by the codes.
     ///
-    ///     CowAsciiStr::<Global>::from(AsciiStr::literal("foo")).cmp(&CowAsciiStr::<Global>::from(AsciiStr::literal("fo"))) // Greater
+    ///     let cow: CowAsciiStr = AsciiStr::literal("foo").into();
+    ///     cow.cmp(&CowAsciiStr::Borrowed(AsciiStr::literal("fo"))) // Greater
+    ///     cow.cmp(&CowAsciiStr::Borrowed(AsciiStr::literal("z"))) // Less
     fn cmp(&self, other: &CowAsciiStr<'_, A>) -> Ordering {
         self.as_ascii_str().cmp(&other.as_ascii_str())
     }
@@ -134,8 +146,8 @@ impl<A: Allocator> Hash for CowAsciiStr<'_, A> {
     /// Hashes the text as a view of it is hashed.
     ///
     ///     let mut seen = HashSet::new(alloc);
-    ///     seen.insert(CowAsciiStr::<Global>::from(AsciiStr::literal("foo")))?;
-    ///     seen.contains(&CowAsciiStr::<Global>::from(AsciiStr::literal("foo"))) // true
+    ///     seen.insert(CowAsciiStr::Owned(AsciiString::new(alloc)))? // true
+    ///     seen.insert(CowAsciiStr::Borrowed(AsciiStr::literal("")))? // false
     fn hash<H: Hasher>(&self, state: &mut H) {
         self.as_ascii_str().hash(state);
     }

@@ -18,7 +18,9 @@ impl<S: AsStr> fmt::Display for Kept<S> {
     /// Writes the text, with the width, the alignment and the precision of the format, as for
     /// `str`.
     ///
-    ///     format!(in alloc; "{}", BoxedAsciiStr::from_ascii_str(alloc, AsciiStr::literal("a\"b"))?)? // "a\"b"
+    ///     let boxed = BoxedAsciiStr::from_ascii_str(alloc, AsciiStr::literal("a\"b"))?;
+    ///     format!(in alloc; "{boxed}")? // "a\"b"
+    ///     format!(in alloc; "{boxed:>4.1}")? // "   a"
     fn fmt<W: fmt::Write>(&self, f: &mut fmt::Formatter<W>) -> fmt::Result {
         fmt::Display::fmt(&self.as_ascii_str(), f)
     }
@@ -29,7 +31,9 @@ impl<S: AsStr> fmt::Debug for Kept<S> {
 
     /// Writes the text in double quotes, escaped as std escapes it.
     ///
-    ///     format!(in alloc; "{:?}", BoxedAsciiStr::from_ascii_str(alloc, AsciiStr::literal("foo"))?)? // "\"foo\""
+    ///     let boxed = BoxedAsciiStr::from_ascii_str(alloc, AsciiStr::literal("a\"\n"))?;
+    ///     format!(in alloc; "{boxed:?}")? // "\"a\\\"\\n\""
+    ///     format!(in alloc; "{boxed}")? // "a\"\n"
     fn fmt<W: fmt::Write>(&self, f: &mut fmt::Formatter<W>) -> fmt::Result {
         fmt::Debug::fmt(&self.as_ascii_str(), f)
     }
@@ -44,6 +48,7 @@ impl<A: Allocator> fmt::Display for CowAsciiStr<'_, A> {
     /// `str`.
     ///
     ///     format!(in alloc; "{}", CowAsciiStr::<Global>::from(AsciiStr::literal("a\"b")))? // "a\"b"
+    ///     format!(in alloc; "{:->3}", CowAsciiStr::Owned(AsciiString::new(alloc)))? // "---"
     fn fmt<W: fmt::Write>(&self, f: &mut fmt::Formatter<W>) -> fmt::Result {
         fmt::Display::fmt(&self.as_ascii_str(), f)
     }
@@ -55,6 +60,7 @@ impl<A: Allocator> fmt::Debug for CowAsciiStr<'_, A> {
     /// Writes the text in double quotes, escaped as std escapes it.
     ///
     ///     format!(in alloc; "{:?}", CowAsciiStr::<Global>::from(AsciiStr::literal("foo")))? // "\"foo\""
+    ///     format!(in alloc; "{:?}", CowAsciiStr::Owned(AsciiString::new(alloc)))? // "\"\""
     fn fmt<W: fmt::Write>(&self, f: &mut fmt::Formatter<W>) -> fmt::Result {
         fmt::Debug::fmt(&self.as_ascii_str(), f)
     }

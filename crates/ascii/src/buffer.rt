@@ -233,6 +233,7 @@ pub trait CloneBuffer: Buffer {
 /// A buffer that keeps few bytes in the value itself, and more in a `Vec`.
 ///
 ///     let bytes: Inline<24> = InlineBuffer::from_vec(Vec::from_slice(alloc, b"foo")?);
+///     bytes.room() // 24
 ///     bytes.into_vec().ok() // Some([102, 111, 111])
 pub trait InlineBuffer: Buffer {
     /// Converts a `Vec` into a buffer, keeping its allocation if that has more room than the sure

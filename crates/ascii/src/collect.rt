@@ -125,6 +125,7 @@ impl<B: NewBuffer> Text<B> {
     /// The string grows as the characters come.
     ///
     ///     AsciiString::collect_chars(alloc, AsciiStr::literal("foo").chars().rev())? // "oof"
+    ///     AsciiString::collect_chars(alloc, AsciiStr::literal("").chars())? // ""
     pub fn collect_chars<I: Iterator<Item = AsciiChar> + Drop>(
         alloc: B::Alloc,
         iter: I,
@@ -148,6 +149,7 @@ impl<B: NewBuffer> Text<B> {
     /// The string grows as the views come.
     ///
     ///     AsciiString::collect_strs(alloc, AsciiStr::literal("b,c").split(AsciiChar::Comma))? // "bc"
+    ///     AsciiString::collect_strs(alloc, AsciiStr::literal(",").split(AsciiChar::Comma))? // ""
     pub fn collect_strs<'a, I: Iterator<Item = AsciiStr<'a>> + Drop>(
         alloc: B::Alloc,
         iter: I,

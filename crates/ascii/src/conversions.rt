@@ -26,6 +26,7 @@ impl AsStr for AsciiStr<'_> {
     /// Returns the view as a `&str`. Nothing is checked or copied.
     ///
     ///     AsStr::as_str(&AsciiStr::literal("foo")) // "foo"
+    ///     AsStr::as_str(&AsciiStr::literal("")) // ""
     fn as_str(&self) -> &str {
         AsciiStr::as_str(*self)
     }
@@ -37,6 +38,7 @@ impl AsSlice<u8> for AsciiStr<'_> {
     /// Returns the bytes of the view, one for each character.
     ///
     ///     AsciiStr::literal("foo").as_slice() // [102, 111, 111]
+    ///     AsciiStr::literal("").as_slice() // []
     fn as_slice(&self) -> &[u8] {
         self.as_bytes()
     }
@@ -48,6 +50,7 @@ impl AsBytes for AsciiStr<'_> {
     /// Returns the bytes of the view, one for each character.
     ///
     ///     AsciiStr::literal("foo").as_byte_slice() // [102, 111, 111]
+    ///     AsciiStr::literal("\0\x7f").as_byte_slice() // [0, 127]
     fn as_byte_slice(&self) -> &[u8] {
         self.as_bytes()
     }
@@ -58,7 +61,7 @@ impl AsPath for AsciiStr<'_> {
 
     /// Returns the view as the text of a path.
     ///
-    ///     AsciiStr::literal("a/b").path_text() // "a/b"
+    ///     AsciiStr::literal("../a/").path_text() // "../a/"
     fn path_text(&self) -> &str {
         AsciiStr::as_str(*self)
     }
@@ -70,6 +73,7 @@ impl<B: Buffer> AsStr for Text<B> {
     /// Returns the text as a `&str`. Nothing is checked or copied.
     ///
     ///     AsStr::as_str(&AsciiStr::literal("foo").to_ascii_string(alloc)?) // "foo"
+    ///     AsStr::as_str(&AsciiString::new(alloc)) // ""
     fn as_str(&self) -> &str {
         self.as_ascii_str().as_str()
     }
@@ -81,6 +85,7 @@ impl<B: Buffer> AsSlice<u8> for Text<B> {
     /// Returns the bytes of the text, one for each character.
     ///
     ///     AsciiStr::literal("foo").to_ascii_string(alloc)?.as_slice() // [102, 111, 111]
+    ///     AsciiString::new(alloc).as_slice() // []
     fn as_slice(&self) -> &[u8] {
         self.as_ascii_str().as_bytes()
     }
@@ -92,6 +97,7 @@ impl<B: Buffer> AsBytes for Text<B> {
     /// Returns the bytes of the text, one for each character.
     ///
     ///     AsciiStr::literal("foo").to_ascii_string(alloc)?.as_byte_slice() // [102, 111, 111]
+    ///     AsciiString::new(alloc).as_byte_slice() // []
     fn as_byte_slice(&self) -> &[u8] {
         self.as_ascii_str().as_bytes()
     }
@@ -141,6 +147,7 @@ impl<A: Allocator> TryFrom<Vec<u8, A>> for AsciiString<A> {
     /// and the position of the first non-ASCII byte. Does not allocate.
     ///
     ///     AsciiString::try_from(Vec::from_slice(alloc, b"foo")?) // Ok("foo")
+    ///     AsciiString::try_from(Vec::from_slice(alloc, b"ab\xc4")?) // Err(AsAsciiStrError(2))
     fn try_from(source: Vec<u8, A>) -> Result<AsciiString<A>, FromAsciiError<Vec<u8, A>>>
         ensures text { MatchResult result (λ string. string.text ≡ source.items)
             (ReturnsSource source source.items) }
@@ -161,6 +168,7 @@ impl<A: Allocator> TryFrom<String<A>> for AsciiString<A> {
     /// `String` and the position of its first non-ASCII byte. Does not allocate.
     ///
     ///     AsciiString::try_from(String::from_str(alloc, "foo")?) // Ok("foo")
+    ///     AsciiString::try_from(String::from_str(alloc, "abč")?) // Err(AsAsciiStrError(2))
     fn try_from(source: String<A>) -> Result<AsciiString<A>, FromAsciiError<String<A>>>
         ensures text { MatchResult result (λ string. string.text ≡ string_bytes source)
             (ReturnsSource source (string_bytes source)) }
@@ -181,6 +189,7 @@ impl<B: InlineBuffer> TryFrom<Vec<u8>> for Text<B> {
     /// itself. Does not allocate.
     ///
     ///     SmallAsciiString::try_from(Vec::from_slice(alloc, b"foo")?) // Ok("foo")
+    ///     SmallAsciiString::try_from(Vec::from_slice(alloc, b"\xc4")?) // Err(AsAsciiStrError(0))
     fn try_from(source: Vec<u8>) -> Result<Text<B>, FromAsciiError<Vec<u8>>>
         ensures text { MatchResult result (λ string. string.text ≡ source.items)
             (ReturnsSource source source.items) }
@@ -208,6 +217,7 @@ impl<B: InlineBuffer> TryFrom<String> for Text<B> {
     /// than the value itself. Does not allocate.
     ///
     ///     SmallAsciiString::try_from(String::from_str(alloc, "foo")?) // Ok("foo")
+    ///     SmallAsciiString::try_from(String::from_str(alloc, "abč")?) // Err(AsAsciiStrError(2))
     fn try_from(source: String) -> Result<Text<B>, FromAsciiError<String>>
         ensures text { MatchResult result (λ string. string.text ≡ string_bytes source)
             (ReturnsSource source (string_bytes source)) }

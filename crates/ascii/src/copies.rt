@@ -85,6 +85,7 @@ impl AsciiStr<'_> {
     /// Returns the characters of the view as a `Vec`, in order. Fails only if the allocation fails.
     ///
     ///     AsciiStr::literal("ab").to_chars(alloc)? // ['a', 'b']
+    ///     AsciiStr::literal("").to_chars(alloc)? // []
     pub fn to_chars<A: Allocator>(self, alloc: A) -> Result<Vec<AsciiChar, A>, AllocError>
         ensures { IfOk result (λ chars. map code_of chars.items ≡ text_of self.entry) }
     {
@@ -102,6 +103,7 @@ impl<B: NewBuffer> Text<B> {
     /// length is not 0.
     ///
     ///     AsciiString::from_char(alloc, AsciiChar::a)? // "a"
+    ///     AsciiString::from_char(alloc, AsciiChar::LineFeed)? // "\n"
     pub fn from_char(alloc: B::Alloc, ch: AsciiChar) -> Result<Text<B>, B::Refusal>
         ensures text { IfOk result (λ string. string.text ≡ code_text ch) }
         ensures succeeds { 1 ≤ B.sure → IsOk result }
@@ -115,6 +117,7 @@ impl<B: NewBuffer> Text<B> {
     /// if they fit the sure length.
     ///
     ///     AsciiString::from_chars(alloc, &[AsciiChar::a, AsciiChar::b])? // "ab"
+    ///     AsciiString::from_chars(alloc, &[])? // ""
     pub fn from_chars(alloc: B::Alloc, chars: &[AsciiChar]) -> Result<Text<B>, B::Refusal>
         ensures text { IfOk result (λ string. string.text ≡ map code_of chars.now) }
         ensures succeeds { length chars.now ≤ B.sure → IsOk result }
@@ -132,6 +135,7 @@ impl<B: Buffer> Text<B> {
     /// the string as the error.
     ///
     ///     AsciiStr::literal("ab").to_ascii_string(alloc)?.into_chars(alloc) // Ok(['a', 'b'])
+    ///     AsciiString::new(alloc).into_chars(alloc) // Ok([])
     pub fn into_chars<A: Allocator>(self, alloc: A) -> Result<Vec<AsciiChar, A>, Text<B>>
         ensures ok { IfOk result (λ chars. map code_of chars.items ≡ self.text) }
         ensures err { IfErr result (λ string. string ≡ self) }

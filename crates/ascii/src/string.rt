@@ -14,6 +14,7 @@ use std::alloc::Allocator;
 /// `String` and the position of its first non-ASCII byte. Does not allocate.
 ///
 ///     string::into_ascii_string(String::from_str(alloc, "foo")?) // Ok("foo")
+///     string::into_ascii_string(String::from_str(alloc, "abč")?) // Err(AsAsciiStrError(2))
 pub fn into_ascii_string<A: Allocator>(
     string: String<A>,
 ) -> Result<AsciiString<A>, FromAsciiError<String<A>>>
@@ -35,6 +36,7 @@ pub fn into_ascii_string<A: Allocator>(
 /// name that upstream's `AsciiString::from_ascii` has.
 ///
 ///     string::from_ascii(String::from_str(alloc, "foo")?) // Ok("foo")
+///     string::from_ascii(String::from_str(alloc, "abč")?) // Err(AsAsciiStrError(2))
 pub fn from_ascii<A: Allocator>(
     string: String<A>,
 ) -> Result<AsciiString<A>, FromAsciiError<String<A>>>

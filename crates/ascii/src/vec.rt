@@ -13,6 +13,7 @@ use std::alloc::Allocator;
 /// the position of the first non-ASCII byte. Does not allocate.
 ///
 ///     vec::into_ascii_string(Vec::from_slice(alloc, b"foo")?) // Ok("foo")
+///     vec::into_ascii_string(Vec::from_slice(alloc, b"ab\xc4")?) // Err(AsAsciiStrError(2))
 pub fn into_ascii_string<A: Allocator>(
     bytes: Vec<u8, A>,
 ) -> Result<AsciiString<A>, FromAsciiError<Vec<u8, A>>>
@@ -34,6 +35,7 @@ pub fn into_ascii_string<A: Allocator>(
 /// upstream's `AsciiString::from_ascii` has.
 ///
 ///     vec::from_ascii(Vec::from_slice(alloc, b"foo")?) // Ok("foo")
+///     vec::from_ascii(Vec::from_slice(alloc, b"ab\xc4")?) // Err(AsAsciiStrError(2))
 pub fn from_ascii<A: Allocator>(
     bytes: Vec<u8, A>,
 ) -> Result<AsciiString<A>, FromAsciiError<Vec<u8, A>>>
