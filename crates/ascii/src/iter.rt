@@ -19,10 +19,10 @@
 //! as a view, which can be iterated again:
 //!
 //!     let mut pieces = AsciiStr::literal("a,b,c").split(AsciiChar::Comma);
-//!     pieces.next_back()
-//!     pieces.remainder()
+//!     pieces.next_back() // Some("c")
+//!     pieces.remainder() // Some("a,b")
 //!
-//! gives `Some("c")` and `Some("a,b")`. If a text is a part of a longer one, `split_spans_from(on, offset)` and
+//! If a text is a part of a longer one, `split_spans_from(on, offset)` and
 //! `line_spans_from(offset)` count positions from the start of that one.
 //!
 //! The iterators hold only views: they do not allocate, and a clone never fails. A contract sees an iterator as the

@@ -77,6 +77,7 @@ impl<'a> Iterator for Chars<'a> {
     /// `None`.
     ///
     ///     AsciiStr::literal("foo").chars().next() // Some('f')
+    ///     AsciiStr::literal("").chars().next() // None
     #[inline]
     fn next(&mut self) -> Option<AsciiChar> {
         let first = self.bytes.next()?;
@@ -86,6 +87,7 @@ impl<'a> Iterator for Chars<'a> {
     /// Returns the number of remaining characters, as the least and as the largest number.
     ///
     ///     AsciiStr::literal("foo").chars().size_hint() // (3, Some(3))
+    ///     AsciiStr::literal("").chars().size_hint() // (0, Some(0))
     #[inline]
     fn size_hint(&self) -> (usize, Option<usize>)
         ensures lower { IsWithinCount result.0 (item_count (λ chars. chars) self.now) }
@@ -103,6 +105,7 @@ impl<'a> DoubleEndedIterator for Chars<'a> {
     /// keeps returning `None`.
     ///
     ///     AsciiStr::literal("foo").chars().next_back() // Some('o')
+    ///     AsciiStr::literal("").chars().next_back() // None
     #[inline]
     fn next_back(&mut self) -> Option<AsciiChar> {
         let last = self.bytes.next_back()?;
@@ -114,6 +117,7 @@ impl ExactSizeIterator for Chars<'_> {
     /// Returns the number of remaining characters.
     ///
     ///     AsciiStr::literal("foo").chars().len() // 3
+    ///     AsciiStr::literal("").chars().len() // 0
     #[inline]
     fn len(&self) -> usize {
         self.bytes.len()
@@ -140,6 +144,7 @@ impl<'a> CharsRef<'a> {
     /// Returns a view of the remaining characters.
     ///
     ///     AsciiStr::literal("foo").into_iter().as_str() // "foo"
+    ///     AsciiStr::literal("").into_iter().as_str() // ""
     #[inline]
     pub fn as_str(&self) -> AsciiStr<'a>
         ensures { text_of result ≡ self.now }
@@ -156,6 +161,7 @@ impl Clone for CharsRef<'_> {
     /// Returns an iterator over the same characters. Always returns `Ok`.
     ///
     ///     AsciiStr::literal("foo").into_iter().clone()?.as_str() // "foo"
+    ///     AsciiStr::literal("").into_iter().clone()?.as_str() // ""
     fn clone(&self) -> Result<Self, AllocError> {
         Ok(CharsRef {
             chars: self.as_str().chars(),
@@ -174,6 +180,7 @@ impl<'a> Iterator for CharsRef<'a> {
     /// `None`.
     ///
     ///     AsciiStr::literal("foo").into_iter().next() // Some('f')
+    ///     AsciiStr::literal("").into_iter().next() // None
     #[inline]
     fn next(&mut self) -> Option<AsciiChar> {
         self.chars.next()
@@ -182,6 +189,7 @@ impl<'a> Iterator for CharsRef<'a> {
     /// Returns the number of remaining characters, as the least and as the largest number.
     ///
     ///     AsciiStr::literal("foo").into_iter().size_hint() // (3, Some(3))
+    ///     AsciiStr::literal("").into_iter().size_hint() // (0, Some(0))
     #[inline]
     fn size_hint(&self) -> (usize, Option<usize>)
         ensures lower { IsWithinCount result.0 (item_count (λ chars. chars) self.now) }
@@ -199,6 +207,7 @@ impl<'a> DoubleEndedIterator for CharsRef<'a> {
     /// keeps returning `None`.
     ///
     ///     AsciiStr::literal("foo").into_iter().next_back() // Some('o')
+    ///     AsciiStr::literal("").into_iter().next_back() // None
     #[inline]
     fn next_back(&mut self) -> Option<AsciiChar> {
         self.chars.next_back()
@@ -221,6 +230,7 @@ impl<'a> IntoIterator for AsciiStr<'a> {
     ///         digit = digit || ch.is_ascii_digit();
     ///     }
     ///     digit // true
+    ///     AsciiStr::literal("").into_iter().next() // None
     #[inline]
     fn into_iter(self) -> CharsRef<'a> {
         CharsRef {

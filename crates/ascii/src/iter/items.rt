@@ -138,6 +138,7 @@ impl<'a, C: Cut> Clone for Spans<'a, C> {
     /// Returns an iterator with the same remaining items and starts. Always returns `Ok`.
     ///
     ///     AsciiStr::literal("a,b").split_spans(AsciiChar::Comma).clone()?.remainder() // Some((0, "a,b"))
+    ///     AsciiStr::literal(" ").words::<Blank>().spans().clone()?.remainder() // None
     fn clone(&self) -> Result<Self, AllocError> {
         Ok(Spans {
             rest: self.rest,
@@ -158,6 +159,7 @@ impl<'a, C: Cut> Iterator for Spans<'a, C> {
     /// returning `None`.
     ///
     ///     AsciiStr::literal("a,b").split_spans(AsciiChar::Comma).next() // Some(SplitSpan { start: 0, text: "a" })
+    ///     AsciiStr::literal(" ").words::<Blank>().spans().next() // None
     #[inline(always)]
     fn next(&mut self) -> Option<SplitSpan<'a>> {
         self.on.tell_laws();
@@ -175,6 +177,7 @@ impl<'a, C: CutBack> DoubleEndedIterator for Spans<'a, C> {
     /// then keeps returning `None`.
     ///
     ///     AsciiStr::literal("a,b").split_spans(AsciiChar::Comma).next_back() // Some(SplitSpan { start: 2, text: "b" })
+    ///     AsciiStr::literal(" ").words::<Blank>().spans().next_back() // None
     #[inline(always)]
     fn next_back(&mut self) -> Option<SplitSpan<'a>> {
         self.on.tell_laws();
@@ -268,6 +271,7 @@ impl<'a, C: Cut> Clone for Items<'a, C> {
     /// Returns an iterator with the same remaining items. Always returns `Ok`.
     ///
     ///     AsciiStr::literal("a,b").split(AsciiChar::Comma).clone()?.remainder() // Some("a,b")
+    ///     AsciiStr::literal(" ").words::<Blank>().clone()?.remainder() // None
     fn clone(&self) -> Result<Self, AllocError> {
         Ok(Items {
             spans: self.spans.clone()?,
@@ -285,6 +289,7 @@ impl<'a, C: Cut> Iterator for Items<'a, C> {
     /// Returns the next item, or `None` if there are none left; it then keeps returning `None`.
     ///
     ///     AsciiStr::literal("a,b").split(AsciiChar::Comma).next() // Some("a")
+    ///     AsciiStr::literal(" ").words::<Blank>().next() // None
     #[inline(always)]
     fn next(&mut self) -> Option<AsciiStr<'a>> {
         let span = self.spans.next()?;
@@ -299,6 +304,7 @@ impl<'a, C: CutBack> DoubleEndedIterator for Items<'a, C> {
     /// returning `None`.
     ///
     ///     AsciiStr::literal("a,b").split(AsciiChar::Comma).next_back() // Some("b")
+    ///     AsciiStr::literal(" ").words::<Blank>().next_back() // None
     #[inline(always)]
     fn next_back(&mut self) -> Option<AsciiStr<'a>> {
         let span = self.spans.next_back()?;
@@ -313,6 +319,7 @@ impl<'a, C: Cut> Items<'a, C> {
     ///
     ///     let mut spans = AsciiStr::literal("a b").words::<Blank>().spans();
     ///     spans.next_back() // Some(SplitSpan { start: 2, text: "b" })
+    ///     AsciiStr::literal(" ").words::<Blank>().spans().next() // None
     #[inline(always)]
     pub fn spans(self) -> Spans<'a, C>
         ensures { IsSpansOf C.cut self.entry result }

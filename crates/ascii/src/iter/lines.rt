@@ -121,6 +121,7 @@ impl Clone for LineSpans<'_> {
     /// Returns an iterator with the same remaining lines, starts and endings. Always returns `Ok`.
     ///
     ///     AsciiStr::literal("x\ny").line_spans().clone()?.remainder() // Some((0, "x\ny"))
+    ///     AsciiStr::literal("").line_spans().clone()?.remainder() // None
     fn clone(&self) -> Result<Self, AllocError> {
         Ok(LineSpans {
             cursor: self.cursor,
@@ -139,6 +140,7 @@ impl<'a> Iterator for LineSpans<'a> {
     /// then keeps returning `None`.
     ///
     ///     AsciiStr::literal("x\ny").line_spans().next() // Some(LineSpan { start: 0, text: "x", ending: Lf })
+    ///     AsciiStr::literal("").line_spans().next() // None
     #[inline(always)]
     fn next(&mut self) -> Option<LineSpan<'a>> {
         let (first, others) = self.cursor.first_line()?;
@@ -154,6 +156,7 @@ impl<'a> DoubleEndedIterator for LineSpans<'a> {
     /// are none left; it then keeps returning `None`.
     ///
     ///     AsciiStr::literal("x\ny").line_spans().next_back() // Some(LineSpan { start: 2, text: "y", ending: Absent })
+    ///     AsciiStr::literal("").line_spans().next_back() // None
     #[inline(always)]
     fn next_back(&mut self) -> Option<LineSpan<'a>> {
         let (last, others) = self.cursor.last_line()?;
@@ -206,6 +209,7 @@ impl Clone for Lines<'_> {
     /// Returns an iterator with the same remaining lines. Always returns `Ok`.
     ///
     ///     AsciiStr::literal("x\ny").lines().clone()?.remainder() // Some("x\ny")
+    ///     AsciiStr::literal("").lines().clone()?.remainder() // None
     fn clone(&self) -> Result<Self, AllocError> {
         Ok(Lines {
             spans: self.spans.clone()?,
@@ -224,6 +228,7 @@ impl<'a> Iterator for Lines<'a> {
     /// returning `None`.
     ///
     ///     AsciiStr::literal("\nx").lines().next() // Some("")
+    ///     AsciiStr::literal("").lines().next() // None
     #[inline(always)]
     fn next(&mut self) -> Option<AsciiStr<'a>> {
         let span = self.spans.next()?;
@@ -238,6 +243,7 @@ impl<'a> DoubleEndedIterator for Lines<'a> {
     /// left; it then keeps returning `None`.
     ///
     ///     AsciiStr::literal("x\n").lines().next_back() // Some("x")
+    ///     AsciiStr::literal("").lines().next_back() // None
     #[inline(always)]
     fn next_back(&mut self) -> Option<AsciiStr<'a>> {
         let span = self.spans.next_back()?;
@@ -314,6 +320,7 @@ impl<'a> AsciiStr<'a> {
     /// Condition: `offset` and the length together are at most `usize::MAX`.
     ///
     ///     AsciiStr::literal("x\r\ny").line_spans_from(10).next_back() // Some(LineSpan { start: 13, text: "y", ending: Absent })
+    ///     AsciiStr::literal("").line_spans_from(10).next_back() // None
     pub fn line_spans_from(self, offset: usize) -> LineSpans<'a>
         requires { offset + length (text_of self) ≤ usize.MAX }
         ensures iterates { IteratesLineSpans offset (text_of self.entry) result }

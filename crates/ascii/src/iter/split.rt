@@ -153,6 +153,7 @@ impl<'a> AsciiStr<'a> {
     ///
     ///     let mut spans = AsciiStr::literal("foo;bar").split_spans_from(AsciiChar::Semicolon, 10);
     ///     spans.next_back() // Some(SplitSpan { start: 14, text: "bar" })
+    ///     spans.next_back() // Some(SplitSpan { start: 10, text: "foo" })
     pub fn split_spans_from(self, on: AsciiChar, offset: usize) -> SplitSpans<'a>
         requires { offset + length (text_of self) ≤ usize.MAX }
         ensures iterates { IteratesPieceSpans offset (text_of self.entry) (code_of on) result }

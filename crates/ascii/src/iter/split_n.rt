@@ -66,6 +66,7 @@ impl<'a> Iterator for SplitN<'a> {
     /// Returns the next piece, or `None` if there are none left; it then keeps returning `None`.
     ///
     ///     AsciiStr::literal("a,b,c").splitn(1, AsciiChar::Comma).next() // Some("a,b,c")
+    ///     AsciiStr::literal("a,b,c").splitn(0, AsciiChar::Comma).next() // None
     #[inline(always)]
     fn next(&mut self) -> Option<AsciiStr<'a>> {
         match self.count {

@@ -23,6 +23,7 @@ pub enum End {
 /// Condition: both steps of the iterator can be called.
 ///
 ///     take_end(&mut AsciiStr::literal("x\ny").lines(), End::Back) // Some("y")
+///     take_end(&mut AsciiStr::literal("").lines(), End::Front) // None
 #[inline]
 pub fn take_end<I: DoubleEndedIterator>(items: &mut I, end: End) -> Option<I::Item>
     requires can_next { I.can_next items.old }
@@ -76,6 +77,7 @@ pub fn walk_split<'a, A: Allocator>(
 /// or an error if the allocation of the list fails. Does not fail for the empty script.
 ///
 ///     walk_lines(alloc, AsciiStr::literal("a\nb"), &[End::Back, End::Front])? // [Some("b"), Some("a")]
+///     walk_lines(alloc, AsciiStr::literal(""), &[End::Front])? // [None]
 pub fn walk_lines<'a, A: Allocator>(
     alloc: A,
     view: AsciiStr<'a>,
@@ -92,6 +94,7 @@ pub fn walk_lines<'a, A: Allocator>(
 /// script.
 ///
 ///     walk_split_spans(alloc, AsciiStr::literal("a,b"), AsciiChar::Comma, &[End::Back])? // [Some(SplitSpan { start: 2, text: "b" })]
+///     walk_split_spans(alloc, AsciiStr::literal("a,b"), AsciiChar::Comma, &[])? // []
 pub fn walk_split_spans<'a, A: Allocator>(
     alloc: A,
     view: AsciiStr<'a>,
@@ -109,6 +112,7 @@ pub fn walk_split_spans<'a, A: Allocator>(
 /// the empty script.
 ///
 ///     walk_line_spans(alloc, AsciiStr::literal("a\nb"), &[End::Front])? // [Some(LineSpan { start: 0, text: "a", ending: Lf })]
+///     walk_line_spans(alloc, AsciiStr::literal(""), &[End::Front])? // [None]
 pub fn walk_line_spans<'a, A: Allocator>(
     alloc: A,
     view: AsciiStr<'a>,
