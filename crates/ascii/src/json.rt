@@ -35,6 +35,7 @@ impl AsciiStr<'_> {
     /// Returns the view as a JSON string, all of it ASCII. Fails only if the allocation fails.
     ///
     ///     AsciiStr::literal("a\"b").to_json(alloc)?.to_string(alloc)? // "\"a\\\"b\""
+    ///     AsciiStr::literal("\x1f").to_json(alloc)?.to_string(alloc)? // "\"\\u001f\""
     pub fn to_json(self, alloc: Global) -> Result<Value, AllocError>
         ensures value { IfOk result (λ value. view value ≡ string (text_of self.entry)) }
         ensures ascii { IsAscii (text_of self.entry) }
@@ -47,6 +48,7 @@ impl<B: Buffer> Text<B> {
     /// Returns the text as a JSON string, all of it ASCII. Fails only if the allocation fails.
     ///
     ///     AsciiStr::literal("foo").to_ascii_string(alloc)?.to_json(alloc)?.to_string(alloc)? // "\"foo\""
+    ///     AsciiString::new(alloc).to_json(alloc)?.to_string(alloc)? // "\"\""
     pub fn to_json(&self, alloc: Global) -> Result<Value, AllocError>
         ensures value { IfOk result (λ value. view value ≡ string self.now.text) }
         ensures ascii { IsAscii self.now.text }
@@ -58,6 +60,7 @@ impl<B: Buffer> Text<B> {
 /// Returns the character as a JSON string of one byte. Fails only if the allocation fails.
 ///
 ///     char_to_json(alloc, AsciiChar::a)?.to_string(alloc)? // "\"a\""
+///     char_to_json(alloc, AsciiChar::Quotation)?.to_string(alloc)? // "\"\\\"\""
 pub fn char_to_json(alloc: Global, ch: AsciiChar) -> Result<Value, AllocError>
     ensures { IfOk result (λ value. view value ≡ string (code_text ch)) }
 {
@@ -103,6 +106,8 @@ pub fn str_from_json(value: &Value) -> Result<AsciiStr<'_>, JsonError>
 /// The value is checked before anything is allocated. A copy of the empty text never fails.
 ///
 ///     string_from_json(alloc, &Value::from_str(alloc, "\"foo\"")?) // Ok("foo")
+///     let value = Value::from_str(alloc, "\"abč\"")?;
+///     string_from_json(alloc, &value) // Err(NotAscii(AsAsciiStrError(2)))
 pub fn string_from_json<A: Allocator>(alloc: A, value: &Value) -> Result<AsciiString<A>, JsonError>
     ensures { MatchResult result (λ string. as_str (view value.now) ≡ Some string.text)
         (RejectsTextCopy 0 (view value.now)) }

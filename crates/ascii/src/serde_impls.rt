@@ -24,6 +24,7 @@ impl Serialize for AsciiStr<'_> {
     /// Writes the text as a string.
     ///
     ///     serde_json::to_string(alloc, &AsciiStr::literal("a\"b"))? // "\"a\\\"b\""
+    ///     serde_json::to_string(alloc, &AsciiStr::literal("\n"))? // "\"\\n\""
     fn serialize<S: Serializer>(&self, out: &mut S) -> Result<(), S::Error> {
         out.str(AsciiStr::as_str(*self))
     }
@@ -37,6 +38,7 @@ impl<B: Buffer> Serialize for Text<B> {
     /// Writes the text as a string.
     ///
     ///     serde_json::to_string(alloc, &AsciiStr::literal("foo").to_ascii_string(alloc)?)? // "\"foo\""
+    ///     serde_json::to_string(alloc, &AsciiString::new(alloc))? // "\"\""
     fn serialize<S: Serializer>(&self, out: &mut S) -> Result<(), S::Error> {
         out.str(self.as_ascii_str().as_str())
     }
@@ -73,9 +75,10 @@ fn accepted<'a, F: Format>(
 
 impl<'de> Deserialize<'de> for AsciiStr<'de> {
     /// Reads a string that is borrowed from the input, or returns an error if a byte of it is not
-    /// ASCII.
+    /// ASCII. A string that cannot be borrowed is an error too: in JSON, one with an escape.
     ///
     ///     serde_json::from_str::<AsciiStr<'_>>(alloc, "\"foo\"").ok() // Some("foo")
+    ///     serde_json::from_str::<AsciiStr<'_>>(alloc, "\"a\\n\"").ok() // None
     fn deserialize<F: Format>(
         alloc: Global,
         from: &mut Deserializer<'de, '_, F>,
@@ -92,6 +95,7 @@ impl DeserializeOwned for AsciiString {
     ///
     ///     let value = Value::from_str(alloc, "\"foo\"")?;
     ///     serde_json::from_value::<AsciiString>(alloc, value).ok() // Some("foo")
+    ///     serde_json::from_value::<AsciiString>(alloc, Value::Null).ok() // None
     fn deserialize_owned<F: Format>(
         alloc: Global,
         from: &mut Deserializer<'_, '_, F>,
@@ -110,6 +114,7 @@ impl<'de> Deserialize<'de> for AsciiString {
     /// Reads a string, or returns an error if a byte of it is not ASCII.
     ///
     ///     serde_json::from_str::<AsciiString>(alloc, "\"foo\"").ok() // Some("foo")
+    ///     serde_json::from_str::<AsciiString>(alloc, "\"č\"").ok() // None
     fn deserialize<F: Format>(
         alloc: Global,
         from: &mut Deserializer<'de, '_, F>,
@@ -125,6 +130,7 @@ impl<B: InlineBuffer> DeserializeOwned for Text<B> {
     ///
     ///     let value = Value::from_str(alloc, "\"foo\"")?;
     ///     serde_json::from_value::<SmallAsciiString>(alloc, value).ok() // Some("foo")
+    ///     serde_json::from_value::<SmallAsciiString>(alloc, Value::Null).ok() // None
     fn deserialize_owned<F: Format>(
         alloc: Global,
         from: &mut Deserializer<'_, '_, F>,
@@ -142,6 +148,7 @@ impl<'de, B: InlineBuffer> Deserialize<'de> for Text<B> {
     /// Reads a string, or returns an error if a byte of it is not ASCII.
     ///
     ///     serde_json::from_str::<SmallAsciiString>(alloc, "\"foo\"").ok() // Some("foo")
+    ///     serde_json::from_str::<SmallAsciiString>(alloc, "\"č\"").ok() // None
     fn deserialize<F: Format>(
         alloc: Global,
         from: &mut Deserializer<'de, '_, F>,
