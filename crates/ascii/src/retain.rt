@@ -13,10 +13,9 @@ impl<B: Buffer> Text<B> {
     /// Removes the characters for which `keep` returns `false`. It is called once for each character,
     /// in order. Does not allocate, and keeps the capacity.
     ///
-    /// Condition: `keep` may be called any number of times with any character, as a closure whose body
-    /// has no condition of its own may.
+    /// Condition: `keep` may be called any number of times with any character.
     ///
-    /// To remove one character use `remove`.
+    /// A closure whose body has no condition of its own meets it. To remove one character use `remove`.
     ///
     ///     let mut text = AsciiStr::literal("a-b-c").to_ascii_string(alloc)?;
     ///     text.retain(|ch| ch != AsciiChar::Minus);

@@ -1,40 +1,10 @@
 //! Classes of bytes, which the searches of `kernels` are for.
 //!
 //! A class is a type that has no values in use: `Class` says which bytes are in it, and `ClassBy`
-//! tests several bytes at once. A class of your own is a constant, the ranges of its bytes; both tests
-//! come from them:
-//!
-//!     const VOWELS: [(u8, u8); 5] = [(b'a', b'a'), (b'e', b'e'), (b'i', b'i'), (b'o', b'o'), (b'u', b'u')];
-//!
-//!     struct VowelRanges;
-//!
-//!     impl Ranges for VowelRanges {
-//!         ghost set = { IsVowel };
-//!         ghost list = { VOWELS };
-//!         ghost matches = { λ n. Prim.search rules };
-//!
-//!         fn ranges() -> &'static [(u8, u8)] {
-//!             &VOWELS
-//!         }
-//!     }
-//!
-//!     type Vowel = ByRanges<VowelRanges>;
-//!
-//! A contract sees a class `C` as the set of codes `C.is`, here `IsVowel`. A class whose bytes are
-//! computed gives its own test of one byte, in place of ranges:
-//!
-//!     impl Class for Even {
-//!         ghost is = { λ n. n % 2 ≡ 0 };
-//!         ghost test = { λ n. eqb (n % 2) 0 };
-//!
-//!         fn has(byte: u8) -> bool {
-//!             byte % 2 == 0
-//!         }
-//!
-//!         ghost decides = { λ n. Decides-eqb (n % 2) 0 };
-//!     }
-//!
-//!     impl<const N: usize> ClassBy<N> for Even {}
+//! tests several bytes at once. A class of your own gives the ranges of its bytes, from which both tests
+//! come: the page of `Ranges` has an `impl`. A class whose bytes are computed gives its own test of one
+//! byte, as `Class` shows, and `impl<const N: usize> ClassBy<N>` without a body tests one byte after the
+//! other. A contract sees a class `C` as the set of codes `C.is`.
 
 ghost use Rattle.std.specs.Prelude.{ℕ, Bool, ◌≡◌, ◌<◌, ◌≤◌, ◌+◌, ◌↔◌, IsTrue, List, codes, length};
 ghost use Rattle.std.specs.List.{Contains};

@@ -8,8 +8,6 @@
 //!     let cmds: [Cmd; 3] = [Cmd::Push(AsciiChar::a), Cmd::Remove(1), Cmd::Len];
 //!     run(alloc, &mut text, &cmds)? // [Done, BadPosition, Number(1)]
 //!
-//! The replies are `Done`, `BadPosition` and `Number(1)`.
-//!
 //! Two lemmas have no run-time effect: `plain_run` says that a run without `NoMemory` is decided by the text and the
 //! commands, and `runs_agree` that two runs of the same commands agree up to the first `NoMemory`.
 
