@@ -18,7 +18,7 @@ import markup
 from definition_pages import DefinitionPages
 from items import Wrong
 from made import DEFINED, LIBRARIES, TOP, TYPED, first_sentence, module_file, modules_of, parts_of
-from markup import FOLDER, frame, html_of, inline, link, linked_docs
+from markup import FOLDER, colored, frame, html_of, inline, link, linked_docs
 from meanings import page_of, source_page
 from owners import MAIN, by_name, owners
 from reference import Reference
@@ -151,7 +151,7 @@ class Site:
         lines = []
         for at, line in enumerate(text.splitlines()):
             marks = "".join(f'<b id="{name}"></b>' for name in starts.get(at, []))
-            lines.append(f'<span id="{at + 1}" data-n="{at + 1}">{marks}{escape(line)}</span>')
+            lines.append(f'<span id="{at + 1}" data-n="{at + 1}">{marks}{colored(escape(line, quote=False))}</span>')
         shown = str(file.relative_to(TOP))
         body = f'<h1><code>{shown}</code></h1>\n<pre class="source"><code>{"".join(lines)}</code></pre>'
         self.write(source_page(crate, path), frame(shown, body))
