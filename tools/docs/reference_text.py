@@ -258,7 +258,7 @@ def page(owner):
     USED.clear()
     EXPLAINED.clear()
     IMPORTED.clear()
-    kind, crate = {"type": "a name of a type"}.get(owner.kind, f"a {owner.kind}"), owner.path.partition("::")[0]
+    kind, crate = {"type": "a name of a type", "enum": "an enum"}.get(owner.kind, f"a {owner.kind}"), owner.path.partition("::")[0]
     head = [MADE, f"# `{owner.path}`", "", f"{kind[0].upper()}{kind[1:]} of the crate `{crate}`. ([Reference](README.md))"]
     lines = docs_lines(owner.docs, owner) + members_lines(owner) if owner.kind == "module" else type_lines(owner)
     wanted = wants(owner.page.removesuffix(".html"))
