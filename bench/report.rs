@@ -475,7 +475,7 @@ a fold without a branch. What each of these gives by itself was not measured.
 | Date | {date} |
 | Machine | {machine}, with a load of {load} before the run |
 | Ours | {rattle}, for {cpu} |
-| Peers | {rustc}, for x86-64; ascii {ascii}, memchr {memchr} |
+| Peers | {rustc}, for {cpu}, its std for x86-64 where it is not inlined; ascii {ascii}, memchr {memchr} |
 | Programs | {tools} |
 {missing}
 ## Everyday tasks
