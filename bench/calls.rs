@@ -3,22 +3,24 @@
 //! largest of the rounds.
 //! usage: calls ROUNDS MICROSECONDS tasks|SIZE,..
 //!
-//! A round lasts at least the given number of microseconds. Of the nanoseconds the minimum of the rounds counts; a ratio
-//! is of the times in one round. `tasks` measures the everyday tasks, each over one text; otherwise each call is measured over texts of the given sizes.
+//! A round lasts at least the given number of microseconds. The minimum of the rounds counts; a ratio is of the times
+//! in one round. `tasks` measures the everyday tasks, each over all of its texts in turn: bytes and nanoseconds are the
+//! mean of a text. Otherwise each call is measured over texts of the given sizes.
 
 mod best;
 mod everyday;
 mod peers;
+mod task_texts;
 mod texts;
 
 use peers::{by_crate, by_memchr, by_std, memory, ours};
 use std::hint::black_box;
 use std::time::{Duration, Instant};
 
-/// One side of a comparison: its name, its answer, and a loop over its call.
+/// One side of a comparison: its name, its answer for each text, and a loop that calls it so often for each text.
 struct Side<'a> {
     name: &'static str,
-    answer: usize,
+    answers: Vec<usize>,
     repeat: Box<dyn FnMut(usize) + 'a>,
 }
 
@@ -27,10 +29,25 @@ impl<'a> Side<'a> {
     fn reads(name: &'static str, call: impl Fn() -> usize + 'a) -> Side<'a> {
         Side {
             name,
-            answer: call(),
+            answers: vec![call()],
             repeat: Box::new(move |times| {
                 for _ in 0..times {
                     black_box(call());
+                }
+            }),
+        }
+    }
+
+    /// A call that reads each of some texts in turn.
+    fn reads_each(name: &'static str, texts: &'a [Vec<u8>], call: impl Fn(&[u8]) -> usize + 'a) -> Side<'a> {
+        Side {
+            name,
+            answers: texts.iter().map(|text| call(text)).collect(),
+            repeat: Box::new(move |times| {
+                for _ in 0..times {
+                    for text in texts {
+                        black_box(call(black_box(text)));
+                    }
                 }
             }),
         }
@@ -43,9 +60,7 @@ impl<'a> Side<'a> {
         call(&mut target);
         Side {
             name,
-            answer: target.iter().fold(0, |sum, byte| {
-                sum.wrapping_mul(31).wrapping_add(*byte as usize)
-            }),
+            answers: vec![target.iter().fold(0, |sum, byte| peers::mixed(sum, *byte as usize))],
             repeat: Box::new(move |times| {
                 for _ in 0..times {
                     call(black_box(&mut target));
@@ -77,28 +92,34 @@ impl Clock {
 
     /// Compares the answers, and measures the sides in turn, round by round.
     fn compare(&self, call: &str, size: usize, mut sides: Vec<Side>) {
-        for side in &sides {
-            if side.answer != sides[0].answer {
-                eprintln!(
-                    "calls: {call}, {size} bytes: {} answers otherwise than {}",
-                    side.name, sides[0].name
-                );
-                std::process::exit(1);
-            }
-        }
+        require_same_answers(call, size, &sides);
+        let texts = sides[0].answers.len() as f64;
         let times: Vec<usize> = sides.iter_mut().map(|side| self.times(side)).collect();
         let mut took = vec![Vec::new(); sides.len()];
         for _ in 0..self.rounds {
             for (place, side) in sides.iter_mut().enumerate() {
                 let start = Instant::now();
                 (side.repeat)(times[place]);
-                took[place].push(start.elapsed().as_nanos() as f64 / times[place] as f64);
+                took[place].push(start.elapsed().as_nanos() as f64 / times[place] as f64 / texts);
             }
         }
         for (side, rounds) in sides.iter().zip(&took) {
             let nanoseconds = rounds.iter().copied().fold(f64::MAX, f64::min);
             let ratios = if side.name == "ours" { String::new() } else { spread(rounds, &took[0]) };
             println!("{call}\t{size}\t{}\t{nanoseconds:.2}{ratios}", side.name);
+        }
+    }
+}
+
+/// Ends the program if the sides have different answers for a text.
+fn require_same_answers(call: &str, size: usize, sides: &[Side]) {
+    let first = &sides[0];
+    for side in sides {
+        if side.answers != first.answers {
+            let at = side.answers.iter().zip(&first.answers).position(|(one, other)| one != other);
+            let names = format!("{} answers otherwise than {}", side.name, first.name);
+            eprintln!("calls: {call}, {size} bytes: {names}, for text {}", at.unwrap_or(0));
+            std::process::exit(1);
         }
     }
 }
@@ -338,13 +359,12 @@ fn owned(clock: &Clock, size: usize) {
 
 /// The everyday tasks and the worst cases of a search.
 fn tasks(clock: &Clock) {
-    for row in everyday::rows() {
-        let (text, other) = (&row.text[..], row.other);
-        let sides = row.sides.iter().map(|(name, task)| {
-            let task = *task;
-            Side::reads(name, move || task(black_box(text), black_box(other)))
+    for everyday::Row { name, texts, other, sides } in everyday::rows() {
+        let mean = texts.iter().map(Vec::len).sum::<usize>() / texts.len();
+        let sides = sides.into_iter().map(|(side, task)| {
+            Side::reads_each(side, &texts, move |text| task(text, black_box(other)))
         });
-        clock.compare(row.name, text.len(), sides.collect());
+        clock.compare(name, mean, sides.collect());
     }
 }
 

@@ -5,15 +5,15 @@
 
 use crate::best;
 use crate::peers::{mark, mixed};
-use crate::texts::Numbers;
+use crate::task_texts;
 
 /// A task: of a text and, if the task takes one, of another text.
 type Task = fn(&[u8], &[u8]) -> usize;
 
-/// A row of the page: its name, the text, the other text, and the task by each side that has it.
+/// A row of the page: its name, its texts, the other text, and the task by each side that has it.
 pub struct Row {
     pub name: &'static str,
-    pub text: Vec<u8>,
+    pub texts: Vec<Vec<u8>>,
     pub other: &'static [u8],
     pub sides: Vec<(&'static str, Task)>,
 }
@@ -551,141 +551,79 @@ fn is_of_identifier(byte: u8) -> bool {
     byte.is_ascii_alphanumeric() || byte == b'_'
 }
 
-const HEADERS: &str = "Host: www.example.org\r\n\
-    User-Agent: Mozilla/5.0 (X11; Linux x86_64; rv:128.0) Gecko/20100101 Firefox/128.0\r\n\
-    Accept: text/html,application/xhtml+xml\r\nAccept-Language: en-US,en;q=0.5\r\n\
-    Accept-Encoding: gzip, deflate, br\r\nConnection: keep-alive\r\nReferer: https://www.example.org/a/b\r\n\
-    Cookie: session=0123456789abcdef; theme=dark\r\nUpgrade-Insecure-Requests: 1\r\nCache-Control: max-age=0\r\n\
-    Content-Type: application/json\r\nContent-Length: 1234\r\nX-Request-Id: 6f9619ff-8b86-d011-b42d\r\nDNT: 1\r\n\
-    Pragma: no-cache\r\nIf-None-Match: \"33a64df5\"\r\nX-Forwarded-For: 203.0.113.7\r\nX-Forwarded-Proto: https\r\n\
-    TE: trailers\r\nOrigin: https://example.org\r\n";
-
-const PARAGRAPH: &str = "Most texts are short and most of their words are shorter still, so a search that takes long to \
-    begin never ends soon enough";
-
-const WORDS: [&str; 16] = [
-    "the", "server", "request", "connection", "closed", "by", "peer", "user", "took", "in", "ms", "cache", "for", "hit",
-    "path", "index",
-];
-
-/// 1,000 lines of a log.
-fn log() -> String {
-    let mut numbers = Numbers::new(11);
-    let mut log = String::new();
-    for at in 0..1000 {
-        log += &format!("2026-11-26 15:{:02}:{:02} INFO", at / 60 % 60, at % 60);
-        for _ in 0..3 + numbers.under(8) {
-            log.push(' ');
-            log += WORDS[numbers.under(16) as usize];
-        }
-        log += if numbers.under(20) == 0 { " error: timeout\n" } else { "\n" };
-    }
-    log
-}
-
-/// 100 lines of 8 numbers.
-fn table() -> String {
-    let mut numbers = Numbers::new(12);
-    let mut line = || (0..8).map(|_| numbers.under(1_000_000).to_string()).collect::<Vec<_>>().join(",") + "\n";
-    (0..100).map(|_| line()).collect()
-}
-
-/// 100 names, some of which have a hyphen.
-fn identifiers() -> String {
-    let mut numbers = Numbers::new(13);
-    let mut names = String::new();
-    for _ in 0..100 {
-        for _ in 0..1 + numbers.under(20) {
-            names.push((b'a' + numbers.under(26) as u8) as char);
-            names += ["-", "_", "_", "_"].get(numbers.under(60) as usize).copied().unwrap_or("");
-        }
-        names.push('\n');
-    }
-    names
-}
-
-/// 40 settings, with comments.
-fn settings() -> String {
-    let mut numbers = Numbers::new(14);
-    let mut one = |at| {
-        let comment = if at % 5 == 0 { "# a comment about what follows\n\n" } else { "" };
-        format!("{comment}option.name{at} = some value number {}\n", numbers.under(10_000))
-    };
-    (0..40).map(|at| one(at)).collect()
-}
-
-/// 50 digests, of which some have one character too many.
-fn digests() -> String {
-    let mut numbers = Numbers::new(15);
-    let mut one = |at| {
-        let digits: String = (0..32).map(|_| format!("{:x}", numbers.under(16))).collect();
-        digits + if at % 7 == 0 { "x\n" } else { "\n" }
-    };
-    (0..50).map(|at| one(at)).collect()
-}
-
-/// A row without another text.
+/// A row, by its name, its task, its texts, the other text, and the sides beside ours and the best Rust.
 macro_rules! row {
-    ($name:literal, $task:ident, $text:expr, $other:expr, [$($side:literal $peer:ident),*]) => {
+    ($name:literal, $task:ident, $texts:ident$(($length:literal))?, $other:literal,
+        [$($side:literal $peer:ident),*]) => {
         Row {
             name: $name,
-            text: Vec::from($text),
+            texts: task_texts::$texts($($length)?),
             other: $other,
             sides: vec![("ours", ours::$task), ("best", best::$task), $(($side, $peer::$task)),*],
         }
     };
 }
 
-/// The tasks, and the worst cases of a search for a text: runs of one letter.
+/// The tasks, and the worst cases of a search for a text.
 pub fn rows() -> Vec<Row> {
-    let log = log();
-    let none: &[u8] = b"";
+    [of_headers(), of_logs(), of_replies(), of_lists(), of_words(), of_runs()].into_iter().flatten().collect()
+}
+
+fn of_headers() -> Vec<Row> {
     vec![
-        row!("headers", headers, HEADERS, none, ["std" by_std, "memchr" by_memchr, "crate" by_crate]),
-        row!("strict headers", strict_headers, HEADERS, none, ["std" by_std, "memchr" by_memchr]),
+        row!("headers", headers, headers, b"", ["std" by_std, "memchr" by_memchr, "crate" by_crate]),
+        row!("strict headers", strict_headers, headers, b"", ["std" by_std, "memchr" by_memchr]),
+        row!("header, the last", lookup, headers, b"ORIGIN", ["std" by_std, "memchr" by_memchr]),
+        row!("header, none", lookup, headers, b"x-none", ["std" by_std, "memchr" by_memchr]),
+        row!("names in lower case", lower_names, headers, b"", ["std" by_std, "crate" by_crate]),
+        row!("request line", request, requests, b"", ["std" by_std, "memchr" by_memchr]),
+        row!("address", address, addresses, b"", ["std" by_std, "memchr" by_memchr]),
+    ]
+}
+
+fn of_logs() -> Vec<Row> {
+    vec![
+        row!("lines with `error`", grep, logs, b"error", ["std" by_std, "memchr" by_memchr]),
+        row!("lines with `closed by`", grep, logs, b"closed by", ["std" by_std, "memchr" by_memchr]),
+        row!("lines with `error` in any case", grep_ignoring_case, logs, b"Error", ["std" by_std, "memchr" by_memchr]),
         row!(
-            "request line", request, "GET /search/results/page?q=proved+library&lang=en HTTP/1.1", none,
+            "line of 60 KB, any case", grep_ignoring_case, long_lines, b"Closed Bye",
             ["std" by_std, "memchr" by_memchr]
         ),
-        row!("lines with `error`", grep, log.as_str(), b"error", ["std" by_std, "memchr" by_memchr]),
-        row!("lines with `closed by`", grep, log.as_str(), b"closed by", ["std" by_std, "memchr" by_memchr]),
+        row!("words of a log", longest_word, logs, b"", ["std" by_std]),
+    ]
+}
+
+fn of_replies() -> Vec<Row> {
+    vec![
+        row!("replies", replies, headers, b"", ["std" by_std]),
+        row!("replies by `write!`", written_replies, headers, b"", ["std" by_std]),
+    ]
+}
+
+fn of_lists() -> Vec<Row> {
+    vec![
+        row!("table of numbers", table, tables, b"", ["std" by_std, "memchr" by_memchr]),
+        row!("identifiers", identifiers, identifiers, b"", ["std" by_std, "memchr" by_memchr, "crate" by_crate]),
+        row!("settings", settings, settings, b"", ["std" by_std, "memchr" by_memchr]),
+        row!("digests", digests, digests, b"", ["std" by_std, "memchr" by_memchr]),
+    ]
+}
+
+fn of_words() -> Vec<Row> {
+    vec![
+        row!("slug", slug, titles, b"", ["std" by_std, "crate" by_crate]),
+        row!("replace", replace, sentences, b"", ["std" by_std]),
+        row!("words of a line", longest_word, sentences, b"", ["std" by_std]),
+    ]
+}
+
+/// The worst cases of a search: runs of one letter.
+fn of_runs() -> Vec<Row> {
+    vec![
+        row!("search, run of one letter", find, runs(1024), b"aaab", ["std" by_std, "memchr" by_memchr]),
         row!(
-            "lines with `error` in any case", grep_ignoring_case, log.as_str(), b"Error",
-            ["std" by_std, "memchr" by_memchr]
-        ),
-        row!(
-            "line of 60 KB, any case", grep_ignoring_case, log.replace('\n', " "), b"Closed Bye",
-            ["std" by_std, "memchr" by_memchr]
-        ),
-        row!("header, the last", lookup, HEADERS, b"ORIGIN", ["std" by_std, "memchr" by_memchr]),
-        row!("header, none", lookup, HEADERS, b"x-none", ["std" by_std, "memchr" by_memchr]),
-        row!("replies", replies, HEADERS, none, ["std" by_std]),
-        row!("replies by `write!`", written_replies, HEADERS, none, ["std" by_std]),
-        row!("table of numbers", table, table(), none, ["std" by_std, "memchr" by_memchr]),
-        row!(
-            "identifiers", identifiers, identifiers(), none,
-            ["std" by_std, "memchr" by_memchr, "crate" by_crate]
-        ),
-        row!(
-            "slug", slug, "How to Prove a Small Library: 12 Steps, and What They Cost", none,
-            ["std" by_std, "crate" by_crate]
-        ),
-        row!("settings", settings, settings(), none, ["std" by_std, "memchr" by_memchr]),
-        row!("digests", digests, digests(), none, ["std" by_std, "memchr" by_memchr]),
-        row!("replace", replace, PARAGRAPH, none, ["std" by_std]),
-        row!("words of a line", longest_word, PARAGRAPH, none, ["std" by_std]),
-        row!("words of a log", longest_word, log.as_str(), none, ["std" by_std]),
-        row!(
-            "address", address, "https://docs.example.org:8443/library/ascii/index.html", none,
-            ["std" by_std, "memchr" by_memchr]
-        ),
-        row!("names in lower case", lower_names, HEADERS, none, ["std" by_std, "crate" by_crate]),
-        row!(
-            "search, run of one letter", find, "a".repeat(1024), b"aaab",
-            ["std" by_std, "memchr" by_memchr]
-        ),
-        row!(
-            "search, needle of 30 in a run", find, "a".repeat(256), b"aaaaaaaaaaaaaaaaaaaaaaaaaaaaab",
+            "search, needle of 30 in a run", find, runs(256), b"aaaaaaaaaaaaaaaaaaaaaaaaaaaaab",
             ["std" by_std, "memchr" by_memchr]
         ),
     ]

@@ -159,7 +159,7 @@ impl Calls {
     }
 }
 
-/// A table of the everyday tasks: for each its text, our time, and how many times as fast as each peer ours is.
+/// A table of the everyday tasks: for each the mean length of its texts, our time for one, and how many times as fast as each peer ours is.
 fn tasks(calls: &Calls, rows: &[Vec<String>]) -> String {
     let mut table = String::from(
         "| Task | Bytes | Ours | Fastest peer | best Rust | std | `memchr` | Rust crate |\n|---|--:|--:|--:|--:|--:|--:|--:|\n",
@@ -480,10 +480,11 @@ a fold without a branch. What each of these gives by itself was not measured.
 {missing}
 ## Everyday tasks
 
-What programs do with text, from bytes that are not checked yet: each side tests that they are ASCII. A task has one text
-and is the same code on each side, as a user of that side writes it. *Best Rust* is the task by a Rust programmer who
-measures: over std and `memchr`, with one walk over the bytes, tables, exact sizes, and one search over the whole text.
-The last two rows are the worst cases of a search for a text.
+What programs do with text, from bytes that are not checked yet: each side tests that they are ASCII. A task has 16 texts
+of different lengths (logs: 4), which each side takes in the same order; bytes and time are the mean of a text. It is the
+same code on each side, as a user of that side writes it. *Best Rust* is the task by a Rust programmer who measures: over
+std and `memchr`, with one walk over the bytes, tables, exact sizes, and one search over the whole text. The last two rows
+are the worst cases of a search for a text.
 
 The code is for x86-64-v2. If each machine that runs it has AVX2, give `--cpu x86-64-v3` to `rt run`, to `rt lib` of a
 static library, to `bin/install` or to `bin/bench`: nothing is proved again below. A program checks its processor as it
