@@ -2,7 +2,7 @@
 //! tables, exact sizes and a searcher that is made once, where that is faster than the idioms.
 
 pub use crate::everyday::by_memchr::find;
-use crate::everyday::by_memchr::{lines, split_once, trim_blanks};
+use crate::everyday::by_memchr::{lines, lines_for, split_once, trim_blanks};
 use crate::peers::{mark, mixed};
 use memchr::{memchr, memchr_iter, memmem, memrchr};
 use std::hint::black_box;
@@ -122,7 +122,7 @@ pub fn lookup(source: &[u8], wanted: &[u8]) -> usize {
         // The colon of the wanted name has one place.
         line.get(wanted.len()) == Some(&b':') && line[..wanted.len()].eq_ignore_ascii_case(wanted)
     };
-    let line = lines(source).find(is_wanted);
+    let line = lines_for(source, wanted).find(is_wanted);
     line.map_or(0, |line| line[wanted.len() + 1..].trim_ascii().len())
 }
 
@@ -143,7 +143,7 @@ pub fn replies(source: &[u8], _: &[u8]) -> usize {
     (0..10usize).fold(0, |sum, number| {
         let mut reply = String::with_capacity(64);
         reply.push_str("HTTP/1.1 ");
-        push_number(&mut reply, black_box(200));
+        push_number(&mut reply, 200);
         reply.push_str(" OK\r\nContent-Length: ");
         push_number(&mut reply, number.wrapping_mul(source.len()));
         reply.push_str("\r\n\r\n");
@@ -153,7 +153,7 @@ pub fn replies(source: &[u8], _: &[u8]) -> usize {
 
 pub fn written_replies(source: &[u8], _: &[u8]) -> usize {
     (0..10usize).fold(0, |sum, number| {
-        let (status, length) = (black_box(200), number.wrapping_mul(source.len()));
+        let (status, length) = (200usize, number.wrapping_mul(source.len()));
         let reply = format!("HTTP/1.1 {status} OK\r\nContent-Length: {length}\r\n\r\n");
         mixed(sum, black_box(&reply).len())
     })

@@ -160,8 +160,9 @@ mod by_std {
     }
 
     fn push_reply(reply: &mut String, length: usize) -> std::fmt::Result {
+        let status: usize = 200;
         reply.push_str("HTTP/1.1 ");
-        write!(reply, "{}", black_box(200))?;
+        write!(reply, "{status}")?;
         reply.push_str(" OK\r\nContent-Length: ");
         write!(reply, "{length}")?;
         reply.push_str("\r\n\r\n");
@@ -178,8 +179,7 @@ mod by_std {
 
     pub fn written_replies(source: &[u8], _: &[u8]) -> usize {
         (0..10usize).fold(0, |sum, number| {
-            let (mut reply, status) = (String::new(), black_box(200));
-            let length = number.wrapping_mul(source.len());
+            let (mut reply, status, length) = (String::new(), 200usize, number.wrapping_mul(source.len()));
             let written = write!(reply, "HTTP/1.1 {status} OK\r\nContent-Length: {length}\r\n\r\n");
             mixed(sum, written.map_or(0, |()| black_box(&reply).len()))
         })
@@ -325,6 +325,11 @@ pub mod by_memchr {
         }
     }
 
+    /// The lines of a text; none if it or the text that is asked for is not ASCII.
+    pub fn lines_for<'a>(source: &'a [u8], needle: &[u8]) -> Lines<'a> {
+        lines(if needle.is_ascii() { source } else { &[] })
+    }
+
     pub fn split_once(source: &[u8], on: u8) -> Option<(&[u8], &[u8])> {
         let at = memchr(on, source)?;
         Some((&source[..at], &source[at + 1..]))
@@ -392,7 +397,7 @@ pub mod by_memchr {
 
     pub fn grep(source: &[u8], needle: &[u8]) -> usize {
         let finder = memmem::Finder::new(needle);
-        let lines = lines(source).filter(|line| finder.find(line).is_some());
+        let lines = lines_for(source, needle).filter(|line| finder.find(line).is_some());
         lines.fold(0, |sum, line| mixed(sum, line.len()))
     }
 
@@ -404,11 +409,11 @@ pub mod by_memchr {
             part.is_some_and(|part| part.eq_ignore_ascii_case(needle))
         };
         let is_in = |line: &&[u8]| memchr2_iter(lower, upper, line).any(|at| is_at(line, at));
-        lines(source).filter(is_in).fold(0, |sum, line| mixed(sum, line.len()))
+        lines_for(source, needle).filter(is_in).fold(0, |sum, line| mixed(sum, line.len()))
     }
 
     pub fn lookup(source: &[u8], wanted: &[u8]) -> usize {
-        lines(source)
+        lines_for(source, wanted)
             .filter_map(|line| split_once(line, b':'))
             .find(|(name, _)| name.eq_ignore_ascii_case(wanted))
             .map_or(0, |(_, value)| value.trim_ascii().len())
