@@ -1,11 +1,11 @@
 //! Measures single calls, and writes a line for each: what is called, the number of bytes, the
 //! implementation, nanoseconds; and of a peer how many times as long as ours it takes: the median, the smallest and the
 //! largest of the rounds.
-//! usage: calls ROUNDS MICROSECONDS tasks|SIZE,..
+//! usage: calls ROUNDS MICROSECONDS tasks, or calls ROUNDS MICROSECONDS calls|finds SIZE,..
 //!
 //! A round lasts at least the given number of microseconds. The minimum of the rounds counts; a ratio is of the times
 //! in one round. `tasks` measures the everyday tasks, each over all of its texts in turn: bytes and nanoseconds are the
-//! mean of a text. Otherwise each call is measured over texts of the given sizes.
+//! mean of a text. `calls` measures each call over texts of the given sizes, `finds` only the searches for a needle.
 
 mod best;
 mod everyday;
@@ -132,10 +132,13 @@ fn spread(peer: &[f64], ours: &[f64]) -> String {
     format!("\t{:.4}\t{:.4}\t{:.4}", ratios[last / 2], ratios[0], ratios[last])
 }
 
-/// The same function of several sides over one text, as a list.
+/// The same function of several sides over one text, or over two, as a list.
 macro_rules! sides {
     ($text:ident: $($name:literal $side:ident::$call:ident),*) => {
         vec![$(Side::reads($name, || $side::$call(black_box($text)))),*]
+    };
+    ($text:ident, $other:ident: $($name:literal $side:ident::$call:ident),*) => {
+        vec![$(Side::reads($name, || $side::$call(black_box($text), black_box($other)))),*]
     };
 }
 
@@ -179,13 +182,7 @@ fn cases(clock: &Clock, size: usize) {
     clock.compare(
         "equal",
         size,
-        vec![
-            Side::reads("ours", || ours::equal(black_box(text), black_box(raised))),
-            Side::reads("crate", || {
-                by_crate::equal(black_box(text), black_box(raised))
-            }),
-            Side::reads("std", || by_std::equal(black_box(text), black_box(raised))),
-        ],
+        sides![text, raised: "ours" ours::equal, "crate" by_crate::equal, "std" by_std::equal],
     );
     let mut other = raised.to_vec();
     other[0] = b'%';
@@ -193,13 +190,7 @@ fn cases(clock: &Clock, size: usize) {
     clock.compare(
         "equal, first byte differs",
         size,
-        vec![
-            Side::reads("ours", || ours::equal(black_box(text), black_box(other))),
-            Side::reads("crate", || {
-                by_crate::equal(black_box(text), black_box(other))
-            }),
-            Side::reads("std", || by_std::equal(black_box(text), black_box(other))),
-        ],
+        sides![text, other: "ours" ours::equal, "crate" by_crate::equal, "std" by_std::equal],
     );
     let text = &texts::blank_but_the_middle(size)[..];
     clock.compare(
@@ -254,8 +245,8 @@ fn walks(clock: &Clock, size: usize) {
     );
 }
 
-fn searches(clock: &Clock, size: usize) {
-    // The needle is at the end, and its last character is nowhere else.
+/// Searches for a needle at the end, whose last character is nowhere else.
+fn finds(clock: &Clock, size: usize) {
     for length in [1, 4, 16] {
         if size < length {
             continue;
@@ -268,15 +259,13 @@ fn searches(clock: &Clock, size: usize) {
         clock.compare(
             &format!("find {length}"),
             size,
-            vec![
-                Side::reads("ours", || ours::find(black_box(text), black_box(needle))),
-                Side::reads("std", || by_std::find(black_box(text), black_box(needle))),
-                Side::reads("memchr", || {
-                    by_memchr::find(black_box(text), black_box(needle))
-                }),
-            ],
+            sides![text, needle: "ours" ours::find, "std" by_std::find, "memchr" by_memchr::find],
         );
     }
+}
+
+fn searches(clock: &Clock, size: usize) {
+    finds(clock, size);
     let mut text = texts::letters(size);
     text[size - 1] = b'%';
     let text = &text[..];
@@ -307,10 +296,7 @@ fn searches(clock: &Clock, size: usize) {
     clock.compare(
         "folded",
         size,
-        vec![
-            Side::reads("ours", || ours::folded(black_box(text), black_box(raised))),
-            Side::reads("std", || by_std::equal(black_box(text), black_box(raised))),
-        ],
+        sides![text, raised: "ours" ours::folded, "std" by_std::equal],
     );
 }
 
@@ -368,26 +354,32 @@ fn tasks(clock: &Clock) {
     }
 }
 
+fn calls(clock: &Clock, size: usize) {
+    eprintln!("calls over {size} bytes");
+    checks(clock, size);
+    cases(clock, size);
+    walks(clock, size);
+    searches(clock, size);
+    owned(clock, size);
+}
+
 fn main() {
     let words: Vec<String> = std::env::args().collect();
-    let [_, rounds, microseconds, sizes] = &words[..] else {
-        eprintln!("usage: calls ROUNDS MICROSECONDS tasks|SIZE,..");
-        std::process::exit(2);
-    };
     let number = |word: &str| word.parse::<usize>().expect("a number");
-    let clock = Clock {
+    let clock = |rounds: &str, microseconds: &str| Clock {
         rounds: number(rounds),
         least: Duration::from_micros(number(microseconds) as u64),
     };
-    if sizes == "tasks" {
-        return tasks(&clock);
-    }
-    for size in sizes.split(',').map(number) {
-        eprintln!("calls over {size} bytes");
-        checks(&clock, size);
-        cases(&clock, size);
-        walks(&clock, size);
-        searches(&clock, size);
-        owned(&clock, size);
+    let words: Vec<&str> = words.iter().map(String::as_str).collect();
+    match words[..] {
+        [_, rounds, least, "tasks"] => tasks(&clock(rounds, least)),
+        [_, rounds, least, what @ ("calls" | "finds"), sizes] => {
+            let (clock, measure) = (clock(rounds, least), if what == "calls" { calls } else { finds });
+            sizes.split(',').for_each(|size| measure(&clock, number(size)));
+        }
+        _ => {
+            eprintln!("usage: calls ROUNDS MICROSECONDS tasks, or calls ROUNDS MICROSECONDS calls|finds SIZE,..");
+            std::process::exit(2);
+        }
     }
 }

@@ -1,7 +1,8 @@
 //! Writes PERFORMANCE.md, performance.svg and sizes.svg out of what was measured.
 //! usage: report FOLDER PAGES REASONS
 //!
-//! FOLDER has facts, tasks.tsv, calls.tsv, programs.tsv and servers.tsv; REASONS is a file that says why rows are slower.
+//! FOLDER has facts, tasks.tsv, calls.tsv, finds.tsv, programs.tsv and servers.tsv; REASONS is a file that says why
+//! rows are slower.
 
 use std::collections::HashMap;
 use std::fmt::Write;
@@ -159,7 +160,8 @@ impl Calls {
     }
 }
 
-/// A table of the everyday tasks: for each the mean length of its texts, our time for one, and how many times as fast as each peer ours is.
+/// A table of the everyday tasks: for each the mean length of its texts, our time for one, and how many times as fast
+/// as each peer ours is.
 fn tasks(calls: &Calls, rows: &[Vec<String>]) -> String {
     let mut table = String::from(
         "| Task | Bytes | Ours | Fastest peer | best Rust | std | `memchr` | Rust crate |\n|---|--:|--:|--:|--:|--:|--:|--:|\n",
@@ -239,6 +241,15 @@ fn as_time(nanoseconds: f64) -> String {
         ..999.5e3 => format!("{} µs", as_ratio(nanoseconds / 1e3)),
         _ => format!("{} ms", as_ratio(nanoseconds / 1e6)),
     }
+}
+
+/// A table of the searches by length: our time, and how many times as fast as std and `memchr` ours is.
+fn finds(calls: &Calls) -> String {
+    calls.table(|call, size| {
+        let ratio = |peer| calls.ratio(call, size, peer).map(as_ratio);
+        let time = calls.time(call, size, "ours").map(as_time)?;
+        Some(format!("{time} ({}, {})", ratio("std")?, ratio("memchr")?))
+    })
 }
 
 /// A table of whole programs: milliseconds and MiB for each text.
@@ -433,6 +444,7 @@ fn chart(calls: &Calls, ascii: &str) -> String {
 fn page(
     facts: &HashMap<String, String>,
     calls: &Calls,
+    finds: &str,
     (tasks, behind): (&str, &str),
     programs: &str,
     servers: &str,
@@ -480,11 +492,11 @@ a fold without a branch. What each of these gives by itself was not measured.
 {missing}
 ## Everyday tasks
 
-What programs do with text, from bytes that are not checked yet: each side tests that they are ASCII. A task has 16 texts
-of different lengths (logs: 4), which each side takes in the same order; bytes and time are the mean of a text. It is the
-same code on each side, as a user of that side writes it. *Best Rust* is the task by a Rust programmer who measures: over
-std and `memchr`, with one walk over the bytes, tables, exact sizes, and one search over the whole text. The last two rows
-are the worst cases of a search for a text.
+What programs do with text, from bytes that are not checked yet: each side tests that they are ASCII. A task has 16
+texts of different lengths (logs: 4), which each side takes in the same order; bytes and time are the mean of a text. It
+is the same code on each side, as a user of that side writes it. *Best Rust* is the task by a Rust programmer who
+measures: over std and `memchr`, with one walk over the bytes, tables, exact sizes, and one search over the whole text.
+The last two rows are the worst cases of a search for a text.
 
 The code is for x86-64-v2. If each machine that runs it has AVX2, give `--cpu x86-64-v3` to `rt run`, to `rt lib` of a
 static library, to `bin/install` or to `bin/bench`: nothing is proved again below. A program checks its processor as it
@@ -498,6 +510,12 @@ Each call against the fastest of its peers: the Rust crate, std, and a bare loop
 
 {standings}
 {reasons}
+## Searches by length
+
+The position of a needle of 1, 4 or 16 characters at the end of a text: our time, and in parentheses the time of std
+and that of the Rust crate `memchr`, each divided by ours.
+
+{finds}
 ## Compared with the Rust crate
 
 {by_crate}
@@ -579,7 +597,8 @@ fn main() {
     let reasons =
         std::fs::read_to_string(reasons).unwrap_or_else(|error| panic!("{reasons}: {error}"));
     let servers = servers(&rows(format!("{folder}/servers.tsv")));
-    let page = page(&facts, &calls, tasks, &programs, &servers, &sizes(&sized), &reasons);
+    let finds = finds(&Calls::read(&rows(format!("{folder}/finds.tsv"))));
+    let page = page(&facts, &calls, &finds, tasks, &programs, &servers, &sizes(&sized), &reasons);
     write("PERFORMANCE.md", page);
     if pages == "docs" {
         let readme = std::fs::read_to_string("README.md").expect("README.md");
