@@ -2,59 +2,117 @@
 """Measures the example servers, and writes a line for each row: what is measured, ours, and redis-server's, if it has one.
 usage: bench/servers.py ROUNDS
 
-Requests a second by redis-benchmark over one connection: the best of ROUNDS, ours and redis-server in turn. Of a mail of
-64 MiB: milliseconds of CPU time, the minimum of ROUNDS, and MiB of memory at the peak. The programs are those of
-crates/*/out. What is not installed is left out, and named on standard error.
+Requests a second of one client over one connection: the best of ROUNDS, ours and redis-server in turn, each with a
+store that is empty at first. The client sets random keys, and asks the same connection for these keys in another order;
+each reply is compared. Both ends of a connection send at once (TCP_NODELAY). For a mail of 64 MiB: milliseconds of CPU
+time, the minimum of ROUNDS, and MiB of memory at the peak. The programs are those of crates/*/out. If redis-server is
+not installed, the store is left out, and standard error says so.
 """
 import os
+import random
 import shutil
 import socket
 import subprocess
 import sys
 import threading
+import time
 from contextlib import contextmanager
+from itertools import product
 from pathlib import Path
 
 sys.path.insert(0, str(Path(__file__).resolve().parents[1] / "tools" / "check"))
-from dialogues import BEGUN, listening, start  # noqa: E402
+from dialogues import BEGUN, received, start  # noqa: E402
 
-REQUESTS = {"1": 100_000, "16": 1_000_000, "64": 2_000_000}  # by how many are sent together
+KEYS, REQUESTS, SIZES = 10_000, 32_000, (3, 100, 1000)  # the sizes are those of a value, in bytes
+PASSES = {1: 1, 16: 5, 64: 10}  # over the requests, by how many are sent together
 LINES = 932_068  # of 70 characters with CR LF: 64 MiB
 LINE = b"x" * 70 + b"\r\n"
 
 
+def sends_at_once(connection):
+    connection.setsockopt(socket.IPPROTO_TCP, socket.TCP_NODELAY, 1)
+    return connection
+
+
+@contextmanager
+def ours():
+    """A connection with a new process of example_resp."""
+    with socket.create_server(("127.0.0.1", 0)) as listener:
+        client = sends_at_once(socket.create_connection(listener.getsockname()))
+        with sends_at_once(listener.accept()[0]) as server:
+            process = start("example_resp", server)
+    with process, client:
+        yield client
+
+
+def connected(port):
+    """A connection with a server that begins to listen at this port."""
+    while True:
+        try:
+            return sends_at_once(socket.create_connection(("127.0.0.1", port)))
+        except ConnectionRefusedError:
+            time.sleep(0.01)
+
+
 @contextmanager
 def redis():
-    """A port of redis-server that keeps nothing."""
+    """A connection with a new redis-server that keeps nothing. It sets TCP_NODELAY itself."""
     with socket.create_server(("127.0.0.1", 0)) as free:
         port = free.getsockname()[1]
     words = ["redis-server", "--port", str(port), "--save", "", "--appendonly", "no", "--loglevel", "warning"]
     with subprocess.Popen(words, stdout=subprocess.DEVNULL) as server:
         try:
-            while subprocess.run(["redis-cli", "-p", str(port), "ping"], capture_output=True).returncode:
-                pass
-            yield port
+            with connected(port) as client:
+                yield client
         finally:
             server.terminate()
 
 
-def rates(port, together):
-    """Requests a second, by request."""
-    words = ["redis-benchmark", "-p", str(port), "-c", "1", "-n", str(REQUESTS[together]), "-P", together, "-t", "set,get", "--csv"]
-    rows = subprocess.run(words, capture_output=True, text=True, check=True).stdout.splitlines()[1:]
-    return {name: float(rate) for name, rate in (row.replace('"', "").split(",")[:2] for row in rows)}
+def bulk(text):
+    return b"$%d\r\n%s\r\n" % (len(text), text)
+
+
+def request(*words):
+    return b"*%d\r\n" % len(words) + b"".join(map(bulk, words))
+
+
+def exchanges(size):
+    """Requests with their replies: random keys are set, and asked for in another order."""
+    numbers = random.Random(size)
+    keys = numbers.choices(range(KEYS), k=REQUESTS)
+    names = {key: b"key:%012d" % key for key in keys}
+    values = {key: (b"%04d" % key * size)[:size] for key in keys}
+    sets = [(request(b"SET", names[key], values[key]), b"+OK\r\n") for key in keys]
+    gets = [(request(b"GET", names[key]), bulk(values[key])) for key in numbers.sample(keys, REQUESTS)]
+    return {"SET": sets, "GET": gets}
+
+
+def joined(pairs, together):
+    """Requests and replies, of which `together` are one batch."""
+    return [tuple(map(b"".join, zip(*pairs[at : at + together]))) for at in range(0, len(pairs), together)]
+
+
+def rate(client, batches, passes):
+    """Requests a second."""
+    begun = time.perf_counter()
+    for sent, expected in batches * passes:
+        client.sendall(sent)
+        if received(client, len(expected)) != expected:
+            sys.exit(f"bench/servers.py: an unexpected reply to {sent[:80]}")
+    return REQUESTS * passes / (time.perf_counter() - begun)
 
 
 def measure_store(rounds):
-    best = {}
-    with listening("example_resp") as ours, redis() as theirs:
-        for together in list(REQUESTS) * rounds:
-            for side, port in enumerate((ours, theirs)):
-                for name, rate in rates(port, together).items():
-                    of_row = best.setdefault((name, together), [0, 0])
-                    of_row[side] = max(of_row[side], rate)
-    for (name, together), (ours, theirs) in best.items():
-        print(f"store, {name}, {together} together: requests a second", round(ours), round(theirs), sep="\t")
+    for size, (together, passes) in product(SIZES, PASSES.items()):
+        batches = {name: joined(pairs, together) for name, pairs in exchanges(size).items()}
+        best = {name: [0, 0] for name in batches}
+        for _, (side, server) in product(range(rounds), enumerate((ours, redis))):
+            with server() as client:
+                for name, of_name in batches.items():
+                    best[name][side] = max(best[name][side], rate(client, of_name, passes))
+        for name, rates in best.items():
+            row = f"store, {name} of {size} bytes, {together} together: requests a second"
+            print(row, *map(round, rates), sep="\t")
 
 
 def send_mail():
@@ -80,12 +138,12 @@ def main():
     if len(sys.argv) != 2 or not sys.argv[1].isdigit():
         sys.exit(__doc__)
     rounds = int(sys.argv[1])
-    missing = [name for name in ("redis-server", "redis-cli", "redis-benchmark") if not shutil.which(name)]
-    if missing:
-        print(f"bench/servers.py: not here, and left out: {', '.join(missing)}", file=sys.stderr)
-    else:
-        measure_store(rounds)
+    # Mails come first, because the peak of a process includes the memory of the one that starts it.
     times, peaks = zip(*(send_mail() for _ in range(rounds)))
+    if shutil.which("redis-server"):
+        measure_store(rounds)
+    else:
+        print("bench/servers.py: not here, and left out: redis-server", file=sys.stderr)
     print("mail of 64 MiB: ms of CPU time", round(min(times)), "", sep="\t")
     print("mail of 64 MiB: MiB of memory", round(max(peaks)), "", sep="\t")
 
