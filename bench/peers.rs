@@ -88,169 +88,51 @@ macro_rules! called {
 pub mod ours {
     //! Exports of crates/measured.
 
-    mod exports {
-        extern "C" {
-            pub fn bench_accept(source: *const u8, length: usize) -> bool;
-            pub fn bench_upper(source: *mut u8, length: usize);
-            pub fn bench_equal(
-                first: *const u8,
-                length: usize,
-                second: *const u8,
-                length: usize,
-            ) -> bool;
-            pub fn bench_trim(source: *const u8, length: usize) -> usize;
-            pub fn bench_lines(source: *const u8, length: usize, from_back: bool) -> usize;
-            pub fn bench_read_lines(source: *const u8, length: usize, is_strict: bool) -> usize;
-            pub fn bench_echo_lines(source: *const u8, length: usize) -> usize;
-            pub fn bench_split(source: *const u8, length: usize) -> usize;
-            pub fn bench_find(
-                source: *const u8,
-                length: usize,
-                needle: *const u8,
-                length: usize,
-            ) -> usize;
-            pub fn bench_position(source: *const u8, length: usize) -> usize;
-            pub fn bench_split_once(source: *const u8, length: usize) -> usize;
-            pub fn bench_words(source: *const u8, length: usize) -> usize;
-            pub fn bench_number(source: *const u8, length: usize) -> usize;
-            pub fn bench_folded(
-                first: *const u8,
-                length: usize,
-                second: *const u8,
-                length: usize,
-            ) -> bool;
-            pub fn bench_chars(source: *const u8, length: usize) -> usize;
-            pub fn bench_collect(source: *const u8, length: usize) -> usize;
-            pub fn bench_push(source: *const u8, length: usize, inline: bool) -> usize;
-            pub fn bench_build(source: *const u8, length: usize, inline: bool) -> usize;
-            pub fn bench_names(source: *const u8, length: usize, inline: bool) -> usize;
-        }
+    /// A function that calls an export, which takes texts, and a flag if one is given.
+    macro_rules! exported {
+        ($($name:ident = $export:ident($($text:ident),+ $(; $flag:ident: $value:literal)?) -> $result:ty),*) => {$(
+            #[inline(always)]
+            pub fn $name($($text: &[u8]),+) -> usize {
+                extern "C" {
+                    fn $export($($text: *const u8, length: usize),+ $(, $flag: bool)?) -> $result;
+                }
+                unsafe { $export($($text.as_ptr(), $text.len()),+ $(, $value)?) as usize }
+            }
+        )*};
     }
 
-    use exports::*;
-
-    #[inline(always)]
-    pub fn accept(source: &[u8]) -> usize {
-        unsafe { bench_accept(source.as_ptr(), source.len()) as usize }
+    exported! {
+        accept = bench_accept(source) -> bool,
+        equal = bench_equal(first, second) -> bool,
+        trim = bench_trim(source) -> usize,
+        lines = bench_lines(source; from_back: false) -> usize,
+        lines_back = bench_lines(source; from_back: true) -> usize,
+        read_lines = bench_read_lines(source; is_strict: false) -> usize,
+        read_strict_lines = bench_read_lines(source; is_strict: true) -> usize,
+        echo_lines = bench_echo_lines(source) -> usize,
+        split = bench_split(source) -> usize,
+        find = bench_find(source, needle) -> usize,
+        position = bench_position(source) -> usize,
+        split_once = bench_split_once(source) -> usize,
+        words = bench_words(source) -> usize,
+        number = bench_number(source) -> usize,
+        folded = bench_folded(first, second) -> bool,
+        chars = bench_chars(source) -> usize,
+        collect = bench_collect(source) -> usize,
+        push = bench_push(source; inline: false) -> usize,
+        push_inline = bench_push(source; inline: true) -> usize,
+        build = bench_build(source; inline: false) -> usize,
+        build_inline = bench_build(source; inline: true) -> usize,
+        names = bench_names(source; inline: false) -> usize,
+        names_inline = bench_names(source; inline: true) -> usize
     }
 
     #[inline(always)]
     pub fn upper(source: &mut [u8]) {
+        extern "C" {
+            fn bench_upper(source: *mut u8, length: usize);
+        }
         unsafe { bench_upper(source.as_mut_ptr(), source.len()) }
-    }
-
-    #[inline(always)]
-    pub fn equal(first: &[u8], second: &[u8]) -> usize {
-        unsafe {
-            bench_equal(first.as_ptr(), first.len(), second.as_ptr(), second.len()) as usize
-        }
-    }
-
-    #[inline(always)]
-    pub fn trim(source: &[u8]) -> usize {
-        unsafe { bench_trim(source.as_ptr(), source.len()) }
-    }
-
-    #[inline(always)]
-    pub fn lines(source: &[u8]) -> usize {
-        unsafe { bench_lines(source.as_ptr(), source.len(), false) }
-    }
-
-    #[inline(always)]
-    pub fn lines_back(source: &[u8]) -> usize {
-        unsafe { bench_lines(source.as_ptr(), source.len(), true) }
-    }
-
-    #[inline(always)]
-    pub fn read_lines(source: &[u8]) -> usize {
-        unsafe { bench_read_lines(source.as_ptr(), source.len(), false) }
-    }
-
-    #[inline(always)]
-    pub fn read_strict_lines(source: &[u8]) -> usize {
-        unsafe { bench_read_lines(source.as_ptr(), source.len(), true) }
-    }
-
-    #[inline(always)]
-    pub fn echo_lines(source: &[u8]) -> usize {
-        unsafe { bench_echo_lines(source.as_ptr(), source.len()) }
-    }
-
-    #[inline(always)]
-    pub fn split(source: &[u8]) -> usize {
-        unsafe { bench_split(source.as_ptr(), source.len()) }
-    }
-
-    #[inline(always)]
-    pub fn find(source: &[u8], needle: &[u8]) -> usize {
-        unsafe { bench_find(source.as_ptr(), source.len(), needle.as_ptr(), needle.len()) }
-    }
-
-    #[inline(always)]
-    pub fn position(source: &[u8]) -> usize {
-        unsafe { bench_position(source.as_ptr(), source.len()) }
-    }
-
-    #[inline(always)]
-    pub fn split_once(source: &[u8]) -> usize {
-        unsafe { bench_split_once(source.as_ptr(), source.len()) }
-    }
-
-    #[inline(always)]
-    pub fn words(source: &[u8]) -> usize {
-        unsafe { bench_words(source.as_ptr(), source.len()) }
-    }
-
-    #[inline(always)]
-    pub fn number(source: &[u8]) -> usize {
-        unsafe { bench_number(source.as_ptr(), source.len()) }
-    }
-
-    #[inline(always)]
-    pub fn folded(first: &[u8], second: &[u8]) -> usize {
-        unsafe {
-            bench_folded(first.as_ptr(), first.len(), second.as_ptr(), second.len()) as usize
-        }
-    }
-
-    #[inline(always)]
-    pub fn chars(source: &[u8]) -> usize {
-        unsafe { bench_chars(source.as_ptr(), source.len()) }
-    }
-
-    #[inline(always)]
-    pub fn collect(source: &[u8]) -> usize {
-        unsafe { bench_collect(source.as_ptr(), source.len()) }
-    }
-
-    #[inline(always)]
-    pub fn push(source: &[u8]) -> usize {
-        unsafe { bench_push(source.as_ptr(), source.len(), false) }
-    }
-
-    #[inline(always)]
-    pub fn push_inline(source: &[u8]) -> usize {
-        unsafe { bench_push(source.as_ptr(), source.len(), true) }
-    }
-
-    #[inline(always)]
-    pub fn build(source: &[u8]) -> usize {
-        unsafe { bench_build(source.as_ptr(), source.len(), false) }
-    }
-
-    #[inline(always)]
-    pub fn build_inline(source: &[u8]) -> usize {
-        unsafe { bench_build(source.as_ptr(), source.len(), true) }
-    }
-
-    #[inline(always)]
-    pub fn names(source: &[u8]) -> usize {
-        unsafe { bench_names(source.as_ptr(), source.len(), false) }
-    }
-
-    #[inline(always)]
-    pub fn names_inline(source: &[u8]) -> usize {
-        unsafe { bench_names(source.as_ptr(), source.len(), true) }
     }
 }
 
