@@ -16,8 +16,8 @@ INPUT = b"ab\tc\r\n" * 4000
 MOST, STEP = 262_144, 4
 # A call under limits. Some run writes each of `lines` and, if `unread`, some run fails before it reads any input.
 Limited = namedtuple("Limited", "name arguments lines unread", defaults=[False])
-# A run: `answer` is whole, none, unloaded, signal or other.
-Run = namedtuple("Run", "kib status answer line has_read")
+# A run: `writes` are those to standard error, `answer` is whole, none, unloaded, signal or other.
+Run = namedtuple("Run", "kib status answer writes has_read")
 NO_MEMORY = [b"no memory\n"]
 OF_FILTER = [b"ascii_filter: no memory\n", b"ascii_filter: (standard input): no memory\n"]
 CALLS = {
@@ -26,6 +26,7 @@ CALLS = {
         Limited("ends with little memory", ["ends", "FBBF"], NO_MEMORY),
         Limited("ends -s with little memory", ["ends", "-s", "FBBF"], NO_MEMORY),
         Limited("edit with little memory", ["edit", "i1:def", "r0", "u", "p" + "0" * 50_000], NO_MEMORY),
+        Limited("edit of four words with little memory", ["edit", *"uuuu"], NO_MEMORY),
         Limited("no memory for a script of 130,000 letters", ["ends", "F" * 130_000], NO_MEMORY, True),
         Limited("no memory for 100,000 words", ["edit", *["o"] * 100_000], NO_MEMORY, True),
     ],
@@ -34,6 +35,21 @@ CALLS = {
         Limited("no memory for 30,000 files", ["copy", *["-"] * 30_000], OF_FILTER[:1]),
     ],
 }
+
+
+def run_apart(command, **streams):
+    """Runs a command for at most a minute. Its `stderr` is a tuple of what it wrote there, at most 16 times: a text for
+    each write."""
+    reads, writes = os.pipe2(os.O_DIRECT)
+    try:
+        try:
+            ran = subprocess.run(command, stderr=writes, timeout=60, **streams)
+        finally:
+            os.close(writes)
+        ran.stderr = tuple(iter(lambda: os.read(reads, 65_536), b""))
+        return ran
+    finally:
+        os.close(reads)
 
 
 class Limits(unittest.TestCase):
@@ -50,20 +66,20 @@ class Limits(unittest.TestCase):
         command = [self.program, *self.call.arguments]
         with open(self.input, "rb") as given:
             try:
-                ran = subprocess.run(command, stdin=given, capture_output=True, timeout=60, preexec_fn=limit)
+                ran = run_apart(command, stdin=given, stdout=subprocess.PIPE, preexec_fn=limit)
             except OSError:
-                ran = subprocess.CompletedProcess(command, 126, b"", b"")
+                ran = subprocess.CompletedProcess(command, 126, b"", ())
             has_read = os.lseek(given.fileno(), 0, os.SEEK_CUR) > 0
         self.runs.append(Run(kib, ran.returncode, self.kind(ran), ran.stderr, has_read))
         return self.runs[-1]
 
     def kind(self, ran):
         if ran.returncode == 0:
-            return "whole" if (ran.stdout, ran.stderr) == (self.whole, b"") else "other"
+            return "whole" if (ran.stdout, ran.stderr) == (self.whole, ()) else "other"
         if ran.stdout:
             return "other"
         if ran.returncode == 3:
-            return "none" if ran.stderr in NO_MEMORY + OF_FILTER else "other"
+            return "none" if ran.stderr in [(line,) for line in NO_MEMORY + OF_FILTER] else "other"
         if ran.returncode in (126, 127):
             return "unloaded"
         return "signal" if ran.returncode < 0 and not ran.stderr else "other"
@@ -99,8 +115,8 @@ class Limits(unittest.TestCase):
                 wrong.append(f"at {run.kib} KiB: {run}")
             begins = begins or run.answer in ("none", "whole")
             loads = loads or begins or run.status == 127
-        heard = {run.line for run in self.runs if run.answer == "none"}
-        wrong += [f"no run wrote {line}" for line in self.call.lines if line not in heard]
+        heard = {run.writes for run in self.runs if run.answer == "none"}
+        wrong += [f"no run wrote {line}" for line in self.call.lines if (line,) not in heard]
         if not any(run.answer == "whole" for run in self.runs):
             wrong.append("no run had enough memory")
         if self.call.unread and all(run.has_read for run in self.runs if run.answer == "none"):

@@ -1,7 +1,10 @@
-"""Calls of the built programs, as data: what each writes, its status, and its line on standard error."""
+"""Calls of the built programs, as data: what each writes, its status, its line on standard error, which is one write,
+and what it leaves of its input."""
 import os
 import random
 import resource
+import signal
+import socket
 import subprocess
 import tempfile
 import unittest
@@ -10,6 +13,7 @@ from pathlib import Path
 from typing import NamedTuple
 
 import memory_limits
+from memory_limits import run_apart
 
 TOP = Path(__file__).resolve().parents[2]
 USAGE = b"usage: ascii_show copy|lines|tac|caret|ends [-s] SCRIPT|edit WORD..|json\n"
@@ -23,8 +27,17 @@ FILES = {"text": b"x\r\ny", "other": b"ab\310c", "high": b"\310", "empty": b"", 
          HOSTILE: b"ab\310c", "it's": b"\200"}
 
 
+class Failing(bytes):
+    """An input that fails after these bytes."""
+
+
+class Lost(bytes):
+    """A line that is lost, because standard error is full."""
+
+
 class Call(NamedTuple):
-    """A call. `given` is its input, or None if it is closed; `to` says where its output goes if it is not read here."""
+    """A call. `given` is its input of at most 64 KiB, or None if it is closed; `to` says where its output goes if it is
+    not read here."""
 
     name: str
     arguments: list
@@ -32,11 +45,17 @@ class Call(NamedTuple):
     status: int
     output: bytes = b""
     line: bytes = b""
-    # "full", a device that is full, "closed", a pipe that nobody reads, or a file: "own", or "both" if it is the input too.
+    # "full", a device that is full, "closed", a pipe that nobody reads, or a file: "own", "both" if it is the input too,
+    # or "short" if it is full after two bytes.
     to: str = ""
 
+    @property
+    def left(self):
+        """What the call leaves of its input: all of it if an argument is rejected, unless that is for its position."""
+        return self.given if self.status == 2 and not self.line.startswith(b"bad position") else b""
 
-Answer = namedtuple("Answer", "status output line")
+
+Answer = namedtuple("Answer", "status output writes left")
 
 
 def said(text):
@@ -52,36 +71,81 @@ def long_word(length):
     return Call(f"edit of a word of {length} characters", ["edit", *words], b"abc", 0, output)
 
 
+def bad_words(*words):
+    """Calls of `edit` with one word, which is rejected."""
+    return [Call(f"the bad word {word!a}", ["edit", word.encode()], b"abc", 2, b"", b"bad word 1\n") for word in words]
+
+
 SHOW = [
     Call("copy", ["copy"], b"abc", 0, b"abc"),
     Call("copy of nothing", ["copy"], b"", 0),
+    Call("copy of DEL", ["copy"], b"\177", 0, b"\177"),
     Call("lines, from the start", ["lines"], b"x\r\ny", 0, b"x\ny\n"),
+    Call("lines of nothing", ["lines"], b"", 0),
+    Call("lines with an empty line and a last CR", ["lines"], b"a\r\n\r\nb\r", 0, b"a\n\nb\r\n"),
     Call("tac, from the end", ["tac"], b"x\r\ny", 0, b"y\nx\n"),
+    Call("tac with an empty line and a last CR", ["tac"], b"a\r\n\r\nb\r", 0, b"b\r\n\na\n"),
+    Call("tac with an empty line between LFs", ["tac"], b"a\n\nb", 0, b"b\n\na\n"),
     Call("caret", ["caret"], b"a\tb\177\r\n", 0, b"a^Ib^?^M\n"),
     Call("ends", ["ends", "FBB"], b"x\r\ny", 0, b"+x\n+y\n-\n"),
+    Call("ends with an empty script", ["ends", ""], b"a", 0),
+    Call("ends of two empty lines", ["ends", "BBFF"], b"\n\n", 0, b"+\n+\n-\n-\n"),
     Call("ends with starts and endings", ["ends", "-s", "FBB"], b"x\r\ny", 0, b"+0 crlf x\n+3 none y\n-\n"),
+    Call("ends -s of four lines", ["ends", "-s", "FBBFF"], b"foo\r\nbar\n\nbaz\n", 0,
+         b"+0 crlf foo\n+10 lf baz\n+9 lf \n+5 lf bar\n-\n"),
+    Call("ends -s with an empty script", ["ends", "-s", ""], b"a", 0),
     Call("json", ["json"], b'a"b\n', 0, b'"a\\"b\\n"'),
+    Call("json of nothing", ["json"], b"", 0, b'""'),
+    Call("json of control characters and a slash", ["json"], b"\1\b/\177", 0, b'"\\u0001\\b/\177"'),
     Call("edit without a word", ["edit"], b"abc", 0, b"abc"),
     Call("edit of one word", ["edit", "u"], b"abc", 0, b"ABC"),
     Call("edit of three words", ["edit", "i1:def", "r0", "u"], b"abc", 0, b"DEFBC"),
+    Call("edit that inserts a text with a colon", ["edit", "i1:a:b"], b"abc", 0, b"aa:bbc"),
+    Call("edit of empty texts, and a number with zeros", ["edit", "p", "i3:", "t0003"], b"abc", 0, b"abc"),
+    Call("edit that removes from the empty text", ["edit", *"oooo", "pX", "l"], b"abc", 0, b"x"),
+    Call("edit of the largest number", ["edit", f"t{2**64 - 1}"], b"abc", 0, b"abc"),
     *map(long_word, (255, 256, 257, 512, 513, 100000)),
     Call("a byte above 127", ["copy"], b"ab\310", 1, b"", b"the byte at index 2 is not ASCII\n"),
+    Call("a byte above 127 at the start", ["copy"], b"\200", 1, b"", b"the byte at index 0 is not ASCII\n"),
+    Call("a byte above 127 on the second line", ["tac"], b"\n\310", 1, b"", b"the byte at index 1 is not ASCII\n"),
+    Call("a byte above 127 before a bad position", ["edit", "r9"], b"\310", 1, b"",
+         b"the byte at index 0 is not ASCII\n"),
     Call("an index of two digits", ["tac"], b"abcdefghijkl\200", 1, b"", b"the byte at index 12 is not ASCII\n"),
     Call("no word", [], b"abc", 2, b"", USAGE),
     Call("an unknown mode", ["cat"], b"abc", 2, b"", USAGE),
     Call("a word too many", ["copy", "x"], b"abc", 2, b"", USAGE),
-    Call("ends without a script", ["ends"], b"abc", 2, b"", USAGE),
+    Call("json with a word", ["json", "x"], b"", 2, b"", USAGE),
+    Call("ends without a script", ["ends"], b"x", 2, b"", USAGE),
     Call("ends with two scripts", ["ends", "F", "B"], b"abc", 2, b"", USAGE),
-    Call("ends -s without a script", ["ends", "-s"], b"abc", 2, b"", USAGE),
+    Call("ends with two scripts, one of two letters", ["ends", "FB", "B"], b"x", 2, b"", USAGE),
+    Call("ends -s without a script", ["ends", "-s"], b"x", 2, b"", USAGE),
+    Call("ends with -s after the script", ["ends", "F", "-s"], b"x", 2, b"", USAGE),
+    Call("ends -s with two scripts", ["ends", "-s", "F", "F"], b"x", 2, b"", USAGE),
+    Call("ends with -s twice", ["ends", "-s", "-s"], b"x", 2, b"", b"bad word 2\n"),
+    Call("ends with -S", ["ends", "-S"], b"x", 2, b"", b"bad word 1\n"),
     Call("a bad script after -s", ["ends", "-s", "FXB"], b"abc", 2, b"", b"bad word 2\n"),
-    Call("a bad script", ["ends", "FXB"], b"abc", 2, b"", b"bad word 1\n"),
+    Call("a bad script after -s before a byte above 127", ["ends", "-s", "FX"], b"\200", 2, b"", b"bad word 2\n"),
+    Call("a bad script", ["ends", "FXB"], b"x", 2, b"", b"bad word 1\n"),
+    Call("a script with a bad end", ["ends", "FX"], b"abc", 2, b"", b"bad word 1\n"),
+    *bad_words("i:x", "i1x", "r", "oo", f"t{2**64}", "p\u00e9", "r+1", ""),
     Call("a bad word", ["edit", "u", "rx"], b"abc", 2, b"", b"bad word 2\n"),
+    Call("a bad word after 11 others", ["edit", *"uuuuuuuuuuu", "x"], b"abc", 2, b"", b"bad word 12\n"),
     Call("a bad word before a byte above 127", ["edit", "x"], b"\310", 2, b"", b"bad word 1\n"),
+    Call("a bad word after a bad position", ["edit", "r9", "rx"], b"\310", 2, b"", b"bad word 2\n"),
     Call("a bad position", ["edit", "o", "r2"], b"abc", 2, b"", b"bad position in word 2\n"),
+    Call("a bad position of an empty text", ["edit", "i4:"], b"abc", 2, b"", b"bad position in word 1\n"),
     Call("a bad position in word 11", ["edit", *"uuuuuuuuuu", "r9"], b"abc", 2, b"", b"bad position in word 11\n"),
     Call("arguments that are not valid UTF-8", [b"copy\310"], b"abc", 2, b"", USAGE),
     Call("an input that is closed", ["copy"], None, 3, b"", b"read failed\n"),
+    Call("an input that fails after three bytes", ["copy"], Failing(b"abc"), 3, b"", b"read failed\n"),
     Call("an output that is full", ["copy"], b"abc", 3, b"", b"write failed\n", "full"),
+    Call("an output that is full after two bytes", ["copy"], b"abcdef", 3, b"ab", b"write failed\n", "short"),
+    Call("no word, and standard error is full", [], b"abc", 2, b"", Lost(USAGE)),
+    Call("a bad word, and standard error is full", ["edit", "x"], b"abc", 2, b"", Lost(b"bad word 1\n")),
+    Call("a bad position, and standard error is full", ["edit", "r9"], b"abc", 2, b"",
+         Lost(b"bad position in word 1\n")),
+    Call("a byte above 127, and standard error is full", ["copy"], b"a\310", 1, b"",
+         Lost(b"the byte at index 1 is not ASCII\n")),
 ]
 
 NOT_ASCII = [said(f"{name}: the byte at index 2 is not ASCII") for name in ("(standard input)", "other")]
@@ -201,32 +265,65 @@ EXAMPLES = [
 CALLS = {"ascii_show": SHOW, "ascii_filter": FILTER, "examples": EXAMPLES}
 
 
+def input_of(call):
+    """A pipe that has the input, or a socket that is reset after it: its other end is closed with a byte unread."""
+    if isinstance(call.given, Failing):
+        ours, theirs = socket.socketpair()
+        theirs.send(b"-")
+        ours.send(call.given)
+        ours.close()
+        return theirs.detach()
+    reads, writes = os.pipe()
+    with open(writes, "wb") as pipe:
+        pipe.write(call.given or b"")
+    return reads
+
+
+def output_of(call, own):
+    """Where the output goes."""
+    if call.to == "full":
+        return os.open("/dev/full", os.O_WRONLY)
+    if call.to == "closed":
+        reads, writes = os.pipe()
+        os.close(reads)
+        return writes
+    return os.open(own, os.O_WRONLY | os.O_APPEND) if call.to else subprocess.PIPE
+
+
+def redirection_of(call):
+    """What a shell changes of the call's streams."""
+    if isinstance(call.line, Lost):
+        return "2>/dev/full"
+    return "<&-" if call.given is None else "<own" if call.to == "both" else ""
+
+
+def limit_files(call):
+    """Limits the files of this process: the system stops a call that writes a larger one, or fails its write if the
+    file is short."""
+    if call.to == "short":
+        signal.signal(signal.SIGXFSZ, signal.SIG_IGN)
+    size = 2 if call.to == "short" else LARGEST
+    resource.setrlimit(resource.RLIMIT_FSIZE, (size, size))
+
+
 def answer_of(program, call, folder):
     """Makes a call in a folder that has the files."""
     command = [program, *call.arguments]
-    redirected = "<&-" if call.given is None else "<own" if call.to == "both" else ""
-    if redirected:
-        command = ["sh", "-c", f'exec "$0" "$@" {redirected}', *command]
+    if redirection_of(call):
+        command = ["sh", "-c", f'exec "$0" "$@" {redirection_of(call)}', *command]
     own = Path(folder) / "own"
-    own.write_bytes(OWN)
-    output = subprocess.PIPE
-    if call.to == "full":
-        output = os.open("/dev/full", os.O_WRONLY)
-    elif call.to == "closed":
-        reads, output = os.pipe()
-        os.close(reads)
-    elif call.to in ("own", "both"):
-        output = os.open(own, os.O_WRONLY | os.O_APPEND)
-    streams = {"input": call.given or b"", "stdout": output, "stderr": subprocess.PIPE}
-    limit = lambda: resource.setrlimit(resource.RLIMIT_FSIZE, (LARGEST, LARGEST))
+    own.write_bytes(b"" if call.to == "short" else OWN)
+    given, output = input_of(call), output_of(call, own)
     try:
-        ran = subprocess.run(command, cwd=folder, timeout=60, preexec_fn=limit, **streams)
+        ran = run_apart(command, cwd=folder, stdin=given, stdout=output, preexec_fn=lambda: limit_files(call))
+        left = os.read(given, 65_536)
     finally:
+        os.close(given)
         if call.to:
             os.close(output)
-    line = ANY if call.line == ANY and ran.stderr else ran.stderr
-    written = own.read_bytes() if call.to in ("own", "both") else ran.stdout or b""
-    return Answer(ran.returncode, written, line)
+    writes = (ANY,) if call.line == ANY and ran.stderr else ran.stderr
+    written = own.read_bytes() if call.to in ("own", "both", "short") else ran.stdout or b""
+    return Answer(ran.returncode, written, writes, left)
 
 
 def names_of_many_bytes():
@@ -273,7 +370,8 @@ class CallOfProgram(unittest.TestCase):
     def runTest(self):
         program = str(TOP / "crates" / self.crate / "out" / self.crate)
         got = answer_of(program, self.call, self.folder)
-        self.assertEqual(got, Answer(self.call.status, self.call.output, self.call.line))
+        writes = (self.call.line,) if self.call.line and not isinstance(self.call.line, Lost) else ()
+        self.assertEqual(got, Answer(self.call.status, self.call.output, writes, self.call.left))
 
 
 def suite(crate, names, folder):
