@@ -492,7 +492,7 @@ a fold without a branch. What each of these gives by itself was not measured.
 {missing}
 ## Everyday tasks
 
-What programs do with text, from bytes that are not checked yet: each side tests that they are ASCII. A task has 16
+What programs do with text, from bytes that are not checked yet: each side tests that they are ASCII. A task has 128
 texts of different lengths (logs: 4), which each side takes in the same order; bytes and time are the mean of a text. It
 is the same code on each side, as a user of that side writes it. *Best Rust* is the task by a Rust programmer who
 measures: over std and `memchr`, with one walk over the bytes, tables, exact sizes, and one search over the whole text.

@@ -4,7 +4,7 @@
 use crate::texts::Numbers;
 
 /// How many texts a task has, and how many if a text has 60 KB: four of those fit into the cache of a core.
-const TEXTS: usize = 16;
+const TEXTS: usize = 128;
 const LONG_TEXTS: usize = 4;
 
 /// Names of headers, each with values that clients send.
