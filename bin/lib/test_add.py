@@ -76,6 +76,14 @@ class Adding(unittest.TestCase):
         self.assertEqual(self.add("--update", "--force", self.dest)[0], 0)
         self.assert_whole("second")
 
+    def test_a_crate_without_a_checksum_is_left(self):
+        self.add(self.dest, "low")
+        self.write(self.dest / "ADDED", "low abc\n")
+        status, said = self.add("--update", self.dest)
+        self.assertEqual((status, said), (65, f"bin/add: {self.dest}/crates/low has no checksum in ADDED: --force replaces it"))
+        self.assertEqual(self.add("--update", "--force", self.dest)[0], 0)
+        self.assert_whole("first", ["low"])
+
     def test_what_a_check_made_is_no_change(self):
         self.add(self.dest, "high")
         self.write(self.dest / "crates" / "high" / "out" / "newer", "proved\n")
