@@ -1,6 +1,6 @@
-"""The examples in the documentation of the libraries, in a crate that is made for them in a temporary folder. All run unproved, as
-rustdoc runs examples. Those that name a call with a condition are also proved over the libraries as they are built, so that the
-condition is proved to hold."""
+"""The examples in the documentation of the libraries and the blocks of tests of RECIPES, in a crate that is made for them in a
+temporary folder. All run unproved, as rustdoc runs examples. Those examples that name a call with a condition are also proved over
+the libraries as they are built, so that the condition is proved to hold."""
 import re
 import shutil
 import subprocess
@@ -13,10 +13,13 @@ sys.path[:0] = [str(TOP / "bin" / "lib"), str(TOP / "tools" / "docs"), str(TOP /
 import examples  # noqa: E402
 import libraries  # noqa: E402
 from made import LIBRARIES  # noqa: E402
+from recipes import BY_HAND, PAGE  # noqa: E402
 
 NAME = "examples_of_docs"
 # What the crate uses beside the libraries.
 BESIDE = ["serde_json", "testing"]
+# What names the blocks of tests of the page where an example is chosen by its library.
+RECIPES = "RECIPES"
 TESTED = re.compile(r"^test result: .*?(\d+) passed; (\d+) failed", re.M)
 FAILED = re.compile(r"^test (\S+) \.\.\. FAILED\n((?:[ \t].*\n)*)", re.M)
 VERDICT = re.compile(r"^fn (\S+): (.*)", re.M)
@@ -24,10 +27,32 @@ VERDICT = re.compile(r"^fn (\S+): (.*)", re.M)
 EXAMPLE = re.compile(r"of_\w+::(\w+)::\1")
 
 
+def blocks():
+    """The blocks of tests of the page, by their sections."""
+    found = re.findall(r"^### ([^\n]*)\n.*?^```rust\n(.*?)^```$", PAGE.read_text(encoding="utf-8").partition(BY_HAND)[2], re.M | re.S)
+    return {re.sub(r"\W+", "_", heading.lower()).strip("_"): text for heading, text in found}
+
+
+def used_by(blocks, uses):
+    """The libraries that blocks name at the head of a path."""
+    names = {it for text in blocks.values() for it in re.findall(r"(?<![:\w])([a-z]\w*)::", text)}
+    return {it for it in names - {"std"} if it in uses or Path(libraries.kit(), "rlibs", f"{it}.rlib").exists()}
+
+
+def add_blocks(folder, blocks):
+    """Adds blocks of tests to the crate, each as a module. Returns the number of tests."""
+    root = folder / "src/tests.rt"
+    root.write_text("".join(f"mod {name};\n" for name in blocks) + root.read_text(encoding="utf-8"), encoding="utf-8")
+    for name, text in blocks.items():
+        (folder / f"src/tests/{name}.rt").write_text(text, encoding="utf-8")
+    return sum(text.count("#[test]") for text in blocks.values())
+
+
 def made(top, is_proved=False, only=""):
-    """Makes the crate, with the sources of the libraries beside it. Returns its folder and the number of examples."""
+    """Makes the crate, with the sources of the libraries beside it. Returns its folder and the number of examples and tests."""
     uses, _ = libraries.listed()
-    used = [*LIBRARIES, *BESIDE]
+    page = blocks() if only in ("", RECIPES) and not is_proved else {}
+    used = [*LIBRARIES, *sorted({*BESIDE, *used_by(page, uses)} - {*LIBRARIES})]
     names = sorted({it for name in used if name in uses for it in [*libraries.below(name, uses), name]})
     for name in names:
         leave = shutil.ignore_patterns("out", "must-fail", "mutations")
@@ -36,7 +61,8 @@ def made(top, is_proved=False, only=""):
     (top / "crates.txt").write_text("".join([*lines, f"{NAME}: {' '.join(used)}\n"]), encoding="utf-8")
     shutil.copy(TOP / "HANDLES", top / "HANDLES")
     folder = top / "crates" / NAME
-    return folder, examples.write_crate(folder, is_proved, only)
+    count = examples.write_crate(folder, is_proved, only)
+    return folder, count + (add_blocks(folder, page) if page else 0)
 
 
 def said_by(command, folder):
@@ -45,7 +71,7 @@ def said_by(command, folder):
 
 
 def run(only=""):
-    """Runs all examples, or those of one library, unproved. Returns how many passed, and what each other one said."""
+    """Runs all examples and blocks, or those of one library or page, unproved. Returns how many passed, and what each other one said."""
     with tempfile.TemporaryDirectory() as scratch:
         folder, count = made(Path(scratch), only=only)
         status, said = said_by(["rt", "try", "--test", "--seconds", "600"], folder)

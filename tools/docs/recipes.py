@@ -1,5 +1,5 @@
-"""Makes docs/RECIPES.md from the cookbook: for each recipe its problem, its calls with their code, and what is proved of them. At
-its end is the page beside.md, on other crates.
+"""Makes docs/RECIPES.md from the cookbook: for each recipe its problem, its calls with their code, and what is proved of them. What
+is on the page from BY_HAND on stays.
 
 The problems are the table at the head of crates/cookbook/src/lib.rt. What is proved of a call is said by sentences.txt."""
 import re
@@ -10,10 +10,11 @@ from made import TOP, head_lines, module_file, modules_of, settle
 from sources import read
 
 PAGE = TOP / "docs/RECIPES.md"
-BESIDE = TOP / "tools/docs/beside.md"
+# The section that is written by hand, up to the end of the page.
+BY_HAND = "## With other crates\n"
 CRATE = "cookbook"
 HEAD = """\
-<!-- Made by `bin/docs recipes` from crates/cookbook: change the sources, and not this page. -->
+<!-- Made by `bin/docs recipes` from crates/cookbook: change the sources, and not this page. Only its last section is written by hand. -->
 # ascii: recipes
 
 Problems that users have, solved over the public contracts of the library. Each call is proved, for every input, and tested
@@ -70,7 +71,7 @@ def recipe(has, wants, name):
 def page():
     """The text of the page."""
     contents = [f"- [`{name}`](#{name}): {has}" for has, _, name in rows()] + ["- [With other crates](#with-other-crates)"]
-    lines = [HEAD, *contents, "", *[line for row in rows() for line in recipe(*row)], read(BESIDE)]
+    lines = [HEAD, *contents, "", *[line for row in rows() for line in recipe(*row)], BY_HAND + read(PAGE).partition(BY_HAND)[2]]
     return "\n".join(lines).rstrip() + "\n"
 
 

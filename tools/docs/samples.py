@@ -4,7 +4,7 @@ Each block of Rust or antt of README.md, docs/CONTRACTS.md, docs/UNPROVED.md, do
 pages CALLING.md is in a source of a crate word for word. A block that begins with `// FILE`, `-- FILE` or `# FILE` is
 in that file, which may be the `stdout` of a stored run. From docs/START.md and docs/LINES.md a reader makes a crate NAME: a
 block with a file of that crate is the whole file, without its tests, as it is in the crate `examples`, whose module NAME is the
-reader's main.rt. A line of crates.txt that a page quotes is in crates.txt, and the tests that tools/docs/beside.md names exist."""
+reader's main.rt. A line of crates.txt that a page quotes is in crates.txt."""
 import re
 
 from made import LIBRARIES, TOP
@@ -73,9 +73,6 @@ def faults():
             file, code = named(text)
             if (file or language in ("rust", "antt")) and not is_sample(page, file, code, sources):
                 wrong.append(f"{page}: {file or 'no source'} does not have the sample: {code.splitlines()[0]}")
-    tests = "".join(text for name, text in sources.items() if "/tests/" in name)
-    named_tests = re.findall(r"\| `(\w+)` \|$", read(TOP / "tools/docs/beside.md"), re.MULTILINE)
-    wrong += [f"tools/docs/beside.md: no test {name}" for name in named_tests if f"fn {name}(" not in tests]
     return wrong + quoted_uses(sources["crates.txt"].splitlines())
 
 

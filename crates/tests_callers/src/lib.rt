@@ -5,6 +5,7 @@
 pub mod both_types;
 pub mod chunks;
 pub mod cuts;
+pub mod encodings;
 pub mod engines;
 pub mod escapes;
 pub mod folded;

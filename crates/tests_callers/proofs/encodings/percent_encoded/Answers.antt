@@ -1,5 +1,5 @@
 use Rattle.percent_encoding.proofs.PercentLemmas.{IsAscii-percent_encode}
-use Rattle.tests_of_callers.proofs.tests.beside.percent_encoded.Goals as goal
+use Rattle.tests_callers.proofs.encodings.percent_encoded.Goals as goal
 
 pub from_ascii_unchecked-requires : goal.from_ascii_unchecked-requires
 from_ascii_unchecked-requires c =
