@@ -29,6 +29,8 @@ WAITS = re.compile(r"^.*which was not admitted.*$", re.MULTILINE)
 VERDICT = re.compile(r"^fn (\S+): (.*)", re.MULTILINE)
 # The line of an impl of which a law is not proved, which is in no function.
 LAW = re.compile(r"^impl \S+: not proved; antt \w+ `([^`]+)`", re.MULTILINE)
+# A method of an impl that a mutation writes: its trait, its type and its name.
+METHOD = re.compile(r"\bimpl (\w+) for (\w+)\b.*?\bfn (\w+)\(")
 
 
 @dataclass
@@ -83,10 +85,18 @@ def why_not(said, mutation):
 
 
 def names_of(mutations):
-    """What a check of mutations names: their functions, or the modules of one in no function."""
-    symbols = [it.partition("::")[2] for m in mutations for it in m.symbols]
-    files = {file for m in mutations if not m.symbols for file, _, _ in m.changes} - {"src/lib.rt"}
-    return sorted({*symbols, *(re.sub(r"^src/|\.rt$", "", it).replace("/", "::") for it in files)})
+    """What a check of mutations names: their functions; or of one in no function the methods of the impls that it writes, or its
+    modules if it writes none."""
+    named = {it.partition("::")[2] for m in mutations for it in m.symbols}
+    for m in (it for it in mutations if not it.symbols):
+        written = [(file, *it) for file, _, new in m.changes for it in METHOD.findall(new)]
+        named |= {f"{module_of(file)}::{of_type}{trait}::{name}" for file, trait, of_type, name in written}
+        named |= {module_of(file) for file, _, _ in m.changes if not written and file != "src/lib.rt"}
+    return sorted(named)
+
+
+def module_of(file):
+    return re.sub(r"^src/|\.rt$", "", file).replace("/", "::")
 
 
 def try_rounds(mutations, calls, check, tell):

@@ -18,7 +18,7 @@ from edit_files import edits_of, mutations_of  # noqa: E402
 from one_by_one import functions_at, goals_in, Mutation, round_of, try_crate  # noqa: E402
 from operators import Operators  # noqa: E402
 from planting import narrow  # noqa: E402
-from rounds import are_apart, how_rejected, is_in_doubt, names_of, placed, try_rounds  # noqa: E402
+from rounds import Placed, are_apart, how_rejected, is_in_doubt, names_of, placed, try_rounds  # noqa: E402
 from run import Run  # noqa: E402
 from settings import Settings  # noqa: E402
 from functions import Names, functions_of
@@ -511,6 +511,9 @@ class Rounds(SmallCrate):
     def test_what_a_check_names(self):
         self.assertEqual(names_of(self.mutations[:2]), ["PairShown::double", "smaller"])
         self.assertEqual(names_of(self.mutations[3:]), [])
+        written = Placed("order", [("src/a/side.rt", "x", "impl Ord for Side { fn cmp(&self) {} } impl Eq for Side {}"), ("src/b.rt", "x", "")], [], [])
+        self.assertEqual(names_of([written]), ["a::side::SideOrd::cmp"])
+        self.assertEqual(names_of([Placed("derive", [("src/a/side.rt", "x", "y")], [], [])]), ["a::side"])
 
     def test_a_law_of_an_impl_counts_for_a_change_in_no_function(self):
         law = "impl small::Side: not proved; antt refuses `matches` in `x`\nlogic=not-proved"
