@@ -12,6 +12,8 @@ from contextlib import contextmanager
 from pathlib import Path
 from typing import NamedTuple
 
+import traced
+
 TOP = Path(__file__).resolve().parents[2]
 WAIT = 10  # seconds for a reply
 
@@ -247,6 +249,50 @@ class StoresMail(unittest.TestCase):
                 self.assertEqual([it.read_bytes() for it in sorted((Path(folder) / "new").glob("*"))], texts, folders)
 
 
+class StoresInOrder(unittest.TestCase):
+    """The system calls of a delivery, in their order: the reply is written when all of them have returned."""
+
+    TEXT = b"one\r\ntwo\r\n"
+
+    def __str__(self):
+        return "example_smtp: the system calls of a delivery"
+
+    def runTest(self):
+        with tempfile.TemporaryDirectory() as folder, tempfile.TemporaryFile() as sent, tempfile.TemporaryFile() as said:
+            for name in ("tmp", "new"):
+                (Path(folder) / name).mkdir()
+            sent.write(BEGUN[0] + self.TEXT + b".\r\n")
+            sent.seek(0)
+            program = TOP / "crates/example_smtp/out/example_smtp"
+            try:
+                calls = list(traced.calls_of([str(program), folder], sent, said))
+            except OSError as why:
+                self.skipTest(f"processes cannot be traced here: {why}")
+        steps = self.steps(calls, folder)
+        self.assertEqual(steps[steps.index("create tmp"):], ["create tmp", self.TEXT, "sync tmp", "rename tmp new", "sync new", "reply"])
+
+    @staticmethod
+    def steps(calls, folder):
+        """The calls at the folder, and those that reply, with adjacent ones as one."""
+        steps, opened = [], {}
+        place = lambda path: path.removeprefix(f"{folder}/").partition("/")[0]
+        for call in calls:
+            if call.name == "open" and call.paths[0].startswith(folder):
+                opened[call.result] = place(call.paths[0])
+                steps += ["create tmp"] if opened[call.result] == "tmp" else []
+            elif call.name == "write" and call.file == 1:
+                steps += ["reply"] if steps[-1:] != ["reply"] else []
+            elif call.name == "write" and call.file in opened and isinstance(steps[-1], bytes):
+                steps[-1] += call.data
+            elif call.name == "write" and call.file in opened:
+                steps.append(call.data)
+            elif call.name in ("fsync", "fdatasync"):
+                steps.append(f"sync {opened.get(call.file)}")
+            elif call.name in ("rename", "link", "unlink"):
+                steps.append(" ".join([call.name, *map(place, call.paths)]))
+        return steps
+
+
 class Command(NamedTuple):
     """A client that may be installed: `PORT` and `FILE` in its words stand for the port and a file with `text`."""
 
@@ -298,7 +344,7 @@ class Runs(unittest.TestCase):
 
 
 def tests():
-    return [*map(Talks, DIALOGUES), SendsMail(), StoresMail(), *map(Runs, COMMANDS)]
+    return [*map(Talks, DIALOGUES), SendsMail(), StoresMail(), StoresInOrder(), *map(Runs, COMMANDS)]
 
 
 def faults():

@@ -1,8 +1,8 @@
 //! The files of a folder, and what happened at them.
 //!
 //! No contract of std says what a call does to a file, so no clause can tell whether the bodies of `Noted` make the
-//! calls whose events they note: they are to be read, with the calls of `Host`. A test runs them over a system that
-//! counts its calls. No other body notes an event.
+//! calls whose events they note: they are to be read. `bin/test dialogues` compares the system calls of a delivery. No
+//! other body notes an event.
 
 ghost use Rattle.std.specs.Prelude.{◌≡◌, ◌++◌, ◌∷◌, [], OnErr, OnOk, map};
 ghost use Rattle.example_smtp.specs.declared.files.FileEvent.TheVariants.{Created, FolderSynced};
@@ -29,72 +29,14 @@ pub enum FileEvent {
     FolderSynced,
 }
 
-/// Calls of a system that keeps files.
-pub trait System {
-    /// An open file.
-    type File: Drop;
-
-    /// Creates a file under a name that is new.
-    fn create(&mut self, path: &str) -> io::Result<Self::File>;
-
-    /// Writes all bytes to a file.
-    fn write_all(&mut self, file: &mut Self::File, bytes: &[u8]) -> io::Result<()>;
-
-    /// Stores a file.
-    fn sync(&mut self, file: &mut Self::File) -> io::Result<()>;
-
-    /// Renames a file.
-    fn rename(&mut self, from: &str, to: &str) -> io::Result<()>;
-
-    /// Stores a folder.
-    fn sync_folder(&mut self, path: &str) -> io::Result<()>;
-}
-
-/// The system that the program runs on.
+/// The calls at files, with a history, which only contracts see.
 #[derive(Drop)]
-pub struct Host<'a> {
+pub struct Noted<'a> {
     rt: &'a HostRuntime,
-}
-
-impl<'a> Host<'a> {
-    /// Returns the system of this runtime.
-    pub fn new(rt: &'a HostRuntime) -> Host<'a> {
-        Host { rt }
-    }
-}
-
-impl<'a> System for Host<'a> {
-    type File = File;
-
-    fn create(&mut self, path: &str) -> io::Result<File> {
-        File::create_new(self.rt, path)
-    }
-
-    fn write_all(&mut self, file: &mut File, bytes: &[u8]) -> io::Result<()> {
-        file.write_all(bytes)
-    }
-
-    fn sync(&mut self, file: &mut File) -> io::Result<()> {
-        file.sync_all()
-    }
-
-    fn rename(&mut self, from: &str, to: &str) -> io::Result<()> {
-        fs::rename(self.rt, from, to)
-    }
-
-    fn sync_folder(&mut self, path: &str) -> io::Result<()> {
-        File::open(self.rt, path)?.sync_all()
-    }
-}
-
-/// A system with a history of its calls, which only contracts see.
-#[derive(Drop)]
-pub struct Noted<S> {
-    pub(crate) system: S,
     events: Log<FileEvent>,
 }
 
-impl<S> Model for Noted<S> {
+impl<'a> Model for Noted<'a> {
     ghost use Rattle.std.specs.Prelude.{List};
     ghost use Rattle.example_smtp.specs.declared.files.FileEvent.{FileEvent};
 
@@ -103,43 +45,43 @@ impl<S> Model for Noted<S> {
     ghost view = { λ noted. noted.events.items };
 }
 
-impl<S: System> Noted<S> {
-    /// Returns the system, at which nothing has happened.
-    pub fn new(system: S) -> Noted<S>
+impl<'a> Noted<'a> {
+    /// Returns the calls of this runtime, of which none has been made.
+    pub fn new(rt: &'a HostRuntime) -> Noted<'a>
         ensures { result ≡ [] }
     {
         Noted {
-            system,
+            rt,
             events: Log::new(),
         }
     }
 
     /// Creates a file under a name that is new.
-    pub fn create(&mut self, path: &str) -> io::Result<S::File>
+    pub fn create(&mut self, path: &str) -> io::Result<File>
         ensures ok { OnOk result (self.new ≡ self.old ++ Created ∷ []) }
         ensures err { OnErr result (self.new ≡ self.old) }
     {
-        let file = self.system.create(path)?;
+        let file = File::create_new(self.rt, path)?;
         self.note(FileEvent::Created);
         Ok(file)
     }
 
     /// Writes all bytes to a file.
-    pub fn write_all(&mut self, file: &mut S::File, bytes: &[u8]) -> io::Result<()>
+    pub fn write_all(&mut self, file: &mut File, bytes: &[u8]) -> io::Result<()>
         ensures ok { OnOk result (self.new ≡ self.old ++ map Wrote bytes.now) }
         ensures err { OnErr result (self.new ≡ self.old) }
     {
-        self.system.write_all(file, bytes)?;
+        file.write_all(bytes)?;
         self.note_written(bytes);
         Ok(())
     }
 
     /// Stores a file.
-    pub fn sync(&mut self, file: &mut S::File) -> io::Result<()>
+    pub fn sync(&mut self, file: &mut File) -> io::Result<()>
         ensures ok { OnOk result (self.new ≡ self.old ++ Synced ∷ []) }
         ensures err { OnErr result (self.new ≡ self.old) }
     {
-        self.system.sync(file)?;
+        file.sync_all()?;
         self.note(FileEvent::Synced);
         Ok(())
     }
@@ -149,7 +91,7 @@ impl<S: System> Noted<S> {
         ensures ok { OnOk result (self.new ≡ self.old ++ Renamed ∷ []) }
         ensures err { OnErr result (self.new ≡ self.old) }
     {
-        self.system.rename(from, to)?;
+        fs::rename(self.rt, from, to)?;
         self.note(FileEvent::Renamed);
         Ok(())
     }
@@ -159,7 +101,7 @@ impl<S: System> Noted<S> {
         ensures ok { OnOk result (self.new ≡ self.old ++ FolderSynced ∷ []) }
         ensures err { OnErr result (self.new ≡ self.old) }
     {
-        self.system.sync_folder(path)?;
+        File::open(self.rt, path)?.sync_all()?;
         self.note(FileEvent::FolderSynced);
         Ok(())
     }

@@ -7,7 +7,7 @@ ghost use Rattle.example_smtp.specs.Mailbox.{HasFailed, storing};
 ghost use Rattle.example_smtp.specs.declared.files.FileEvent.TheVariants.{Created, FolderSynced};
 ghost use Rattle.example_smtp.specs.declared.files.FileEvent.TheVariants.{Renamed, Synced, Wrote};
 
-use crate::files::{Host, Noted};
+use crate::files::Noted;
 use ascii_lines::AsciiStr;
 use std::fs::File;
 use std::io::{self, ErrorKind};
@@ -23,7 +23,7 @@ pub struct Mailbox<'a> {
     rt: &'a HostRuntime,
     folder: &'a str,
     count: u64,
-    files: Noted<Host<'a>>,
+    files: Noted<'a>,
 }
 
 impl<'a> Model for Mailbox<'a> {
@@ -44,7 +44,7 @@ impl<'a> Mailbox<'a> {
             rt,
             folder,
             count: 0,
-            files: Noted::new(Host::new(rt)),
+            files: Noted::new(rt),
         }
     }
 

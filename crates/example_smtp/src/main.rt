@@ -8,8 +8,6 @@ mod mailbox;
 mod paths;
 mod receiving;
 mod session;
-#[cfg(test)]
-mod tests;
 
 use ascii_lines::{AsciiStr, Duplex, Ending, Endings, LineChannel};
 use mailbox::Mailbox;

@@ -3,4 +3,4 @@ use Rattle.example_smtp.specs.declared.files.FileEvent.TheVariants.{Wrote}
 use Rattle.example_smtp.proofs.files.Noted.note_written.Given as goal
 
 abbrev pub invariant-loop-byte : goal.invariant-loop-byte
-invariant-loop-byte g l = l.self ≡ l.fn.self ++ map Wrote (take l.byte-index l.bytes)
+invariant-loop-byte l = l.self ≡ l.fn.self ++ map Wrote (take l.byte-index l.bytes)
