@@ -9,7 +9,7 @@ use ascii::classes::{Blank, Graphic, Token};
 use ascii_formats::AsciiStrExt;
 use ascii_keys::FoldedMap;
 use ascii_lines::{
-    AsciiChar, AsciiStr, BlockEnd, Endings, Input, LineReader, OwnedLine, read_block,
+    AsciiChar, AsciiStr, Block, BlockEnd, Endings, Input, LineReader, OwnedLine, read_block,
 };
 use std::alloc::Global;
 use std::io;
@@ -75,25 +75,9 @@ pub fn read_headers<'a>(
     Ok(headers)
 }
 
-pub fn main(rt: HostRuntime) -> io::Result<()> {
-    let alloc = rt.alloc();
-    let input = Input::new(rt.stdin());
-    let mut reader = LineReader::new(alloc, input, 8_192, Endings::CrLfStrict)?;
-    let block = read_block(alloc, &mut reader, 100)?;
-    let Some((first, others)) = block.lines.split_first() else {
-        return println!(rt; "no request line");
-    };
-    let Some(request) = read_request_line(first.text.as_ascii_str()) else {
-        return println!(rt; "not a request line: {}", first.text);
-    };
-    println!(rt; "{} {} 1.{}", request.method, request.target, request.minor)?;
-    match block.end {
-        BlockEnd::EmptyLine => {}
-        BlockEnd::EndOfInput => return println!(rt; "the input ends in the head"),
-        BlockEnd::Full => return println!(rt; "more than 100 lines"),
-        BlockEnd::Reader(error) => return println!(rt; "{error}"),
-    }
-    match read_headers(alloc, others) {
+/// Prints the header Host, or why there is none.
+fn show_host(rt: &HostRuntime, lines: &[OwnedLine]) -> io::Result<()> {
+    match read_headers(rt.alloc(), lines) {
         Ok(found) => match found.get(AsciiStr::literal("host")) {
             Some(host) => println!(rt; "host {host}"),
             None => println!(rt; "no host"),
@@ -102,4 +86,33 @@ pub fn main(rt: HostRuntime) -> io::Result<()> {
         Err(HeaderError::Twice(index)) => println!(rt; "header {index} comes twice"),
         Err(HeaderError::Memory) => println!(rt; "no memory"),
     }
+}
+
+/// Prints the header Host of lines with this end, or that the end is not that of a head.
+fn show_headers(rt: &HostRuntime, lines: &[OwnedLine], end: BlockEnd) -> io::Result<()> {
+    match end {
+        BlockEnd::EmptyLine => show_host(rt, lines),
+        BlockEnd::EndOfInput => println!(rt; "the input ends in the head"),
+        BlockEnd::Full => println!(rt; "more than 100 lines"),
+        BlockEnd::Reader(error) => println!(rt; "{error}"),
+    }
+}
+
+/// Prints the request line of a block, and its header Host.
+fn show(rt: &HostRuntime, block: &Block) -> io::Result<()> {
+    let Some((first, others)) = block.lines.split_first() else {
+        return println!(rt; "no request line");
+    };
+    let Some(request) = read_request_line(first.text.as_ascii_str()) else {
+        return println!(rt; "not a request line: {}", first.text);
+    };
+    println!(rt; "{} {} 1.{}", request.method, request.target, request.minor)?;
+    show_headers(rt, others, block.end)
+}
+
+pub fn main(rt: HostRuntime) -> io::Result<()> {
+    let alloc = rt.alloc();
+    let input = Input::new(rt.stdin());
+    let mut reader = LineReader::new(alloc, input, 8_192, Endings::CrLfStrict)?;
+    show(&rt, &read_block(alloc, &mut reader, 100)?)
 }
