@@ -28,6 +28,7 @@ use kinds::{Allocates, Ask, Kind};
 use random::Random;
 use std::any::Any;
 use std::collections::HashSet;
+use std::ffi::{c_char, CStr};
 use std::panic::{catch_unwind, AssertUnwindSafe};
 use std::process::ExitCode;
 use std::sync::atomic::{AtomicU64, Ordering};
@@ -200,6 +201,15 @@ fn one_row(name: &str, is_planted: bool) -> Option<bool> {
     let (count, differ) = rows::run(row, is_planted);
     println!("{count} answers of the row {name}: {differ} differ");
     Some((differ > 0) == is_planted)
+}
+
+/// How many answers of a row differ, for a program that `tools/mutants` links with this one; the largest number if there
+/// is no row of that name.
+#[no_mangle]
+pub extern "C" fn soak_row(name: *const c_char) -> u64 {
+    let name = unsafe { CStr::from_ptr(name) };
+    let row = rows::all().find(|row| row.0.as_bytes() == name.to_bytes());
+    row.map_or(u64::MAX, |row| rows::run(row, false).1)
 }
 
 /// Runs a share on each thread, and adds up what they count.

@@ -38,7 +38,7 @@ pub fn quoted(bytes: &[u8]) -> Vec<u8> {
     [b"\"".as_slice(), &json_codes(bytes), b"\""].concat()
 }
 
-/// The JSON text of a view and the string read back, and the text of a string's value.
+/// The JSON text of a view and the string read back, and a string that was a JSON value.
 pub fn ask_json(text: &[u8], asked: &mut Asked) {
     calls::ask_json(asked, text);
     let (want, some) = (&mut asked.want, Needs::memory_if(!text.is_empty()));

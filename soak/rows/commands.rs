@@ -1,5 +1,6 @@
 //! Steps over a string and an inline string: their replies, and the text after them.
 
+use super::strings::LENGTHS;
 use super::{Row, Rows};
 use crate::asked::{Answer, Put};
 use crate::calls::{self, Step, Steps, WHOLE};
@@ -320,7 +321,8 @@ fn many_commands(rows: &mut Rows) {
     });
 }
 
-/// Commands over an empty string with a capacity, and the capacity after each.
+/// Commands over an empty string with a capacity, and the capacity after each; and a text of each length that has just room,
+/// twice the room, just room again and twice the room again.
 fn reserved_and_shrunk(rows: &mut Rows) {
     let grown = commands_of(&[Push(b'x'), Reserve(10_000), Shrink]);
     let mut cleared = commands_of(&[&[Push(b'a'); 10][..], &[Clear, PushStr("ab"), Reserve(100), Shrink]].concat());
@@ -334,6 +336,10 @@ fn reserved_and_shrunk(rows: &mut Rows) {
             asked.want.all(after.iter().map(|capacity| ("done", capacity)));
             assert!(asked.want.bytes == modelled, "the model differs from the row");
         });
+    }
+    for text in LENGTHS.map(|length| "a".repeat(length)) {
+        let cmds = Steps::of([(1, 0, text.as_str()), (11, text.len(), ""), (12, 0, ""), (19, text.len(), "")]);
+        rows.ask(|asked| ask_capacities(text.len(), &cmds, asked));
     }
 }
 

@@ -6,7 +6,8 @@ use crate::kinds::json_values::{ask_json, ask_json_characters, ask_json_value};
 pub static ROWS: &[Row] = &[
     ("texts_of_json_values", |rows| rows.each(VALUES, |(source, text), asked| ask_json_value(source.as_bytes(), text, asked))),
     ("texts_as_json_values", |rows| {
-        rows.each(["Francais", "", "a\"b\n", "\0\x7f"], |text, asked| ask_json(text.as_bytes(), asked));
+        let long = "a?".repeat(10_000);
+        rows.each(["Francais", "", "a\"b\n", "\0\x7f", long.as_str()], |text, asked| ask_json(text.as_bytes(), asked));
         let codes: Vec<u8> = (0..128).collect();
         rows.ask(|asked| ask_json_characters(&codes, asked));
     }),

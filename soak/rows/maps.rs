@@ -1,7 +1,8 @@
 //! Maps whose keys are texts: what steps over them return, beside std's `BTreeMap`.
 
 use super::{Row, Rows};
-use crate::calls::Steps;
+use crate::asked::NOTHING;
+use crate::calls::{self, Steps};
 use crate::kinds::maps::{ask_maps, ask_std_maps};
 
 pub static ROWS: &[Row] = &[
@@ -13,6 +14,20 @@ pub static ROWS: &[Row] = &[
             [(GET, *name)].into_iter().chain(removed)
         });
         ask(rows, &inserted.chain(taken).collect::<Vec<_>>());
+    }),
+    ("many_keys_have_their_values", |rows| {
+        let keys: Vec<String> = (0..5_000).map(|number| number.to_string()).collect();
+        let steps: Vec<(u8, &str)> = keys.iter().flat_map(|key| [(INSERT, key.as_str()), (GET, key)]).collect();
+        let Steps { texts, steps } = passed(&steps);
+        rows.ask(|asked| {
+            calls::ask_maps(asked, &texts, &steps);
+            let want = &mut asked.want;
+            for number in 0..keys.len() {
+                want.times(2, (NOTHING, number + 1, false));
+                want.times(2, (2 * number, number + 1, false));
+            }
+            want.has_other_failures = true;
+        });
     }),
     ("maps_of_std_find_a_name_in_any_case", |rows| {
         for names in [&["Content-Type"][..], &["Host", "HOST", "host", "Hosts", "Accept", "aCCEPT", ""]] {

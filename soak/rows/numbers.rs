@@ -26,7 +26,8 @@ pub static ROWS: &[Row] = &[
     ("the_digits_at_the_start", starts),
     ("digits_are_appended", |rows| {
         let numbers = [0, u64::MAX.into(), -128_i128 as u128, u128::MAX];
-        for text in ["", "0", "018446744073709551615", "018446744073709551615-128"] {
+        let many: String = (0..10_000).map(|number| number.to_string()).collect();
+        for text in ["", "0", "018446744073709551615", "018446744073709551615-128", many.as_str()] {
             numbers.into_iter().for_each(|number| rows.ask(|asked| ask_decimals(number, text.as_bytes(), asked)));
         }
     }),

@@ -26,6 +26,10 @@ pub static ROWS: &[Row] = &[
     }),
     ("calls_over_every_short_text", calls_over_texts),
     ("collected_lines", collected),
+    ("lines_of_20_000_characters", |rows| {
+        let text = ("ab".repeat(10_000) + "\r\n").repeat(3);
+        rows.ask(|asked| ask_lines(text.as_bytes(), 20_002, ANY, WHOLE, true, asked));
+    }),
     ("blocks_of_every_short_text", |rows| {
         for text in texts_of(b"\r\na\x80", 5) {
             for (size, most) in (0..5).flat_map(|size| (0..5).map(move |most| (size, most))) {
@@ -105,6 +109,8 @@ fn collected(rows: &mut Rows) {
     ask_expected(rows, b"y\nabc\r\n\rz\r", (6, 100), &lines, None);
     let lines = [(0, "GET / ", "crlf"), (8, "", "crlf"), (10, "body", "none")];
     ask_expected(rows, b"GET / \r\n\r\nbody", (16, 100), &lines, None);
+    let lines: Vec<_> = (0..2_000_usize).map(|number| (11 * number, "0123456789", "lf")).collect();
+    ask_expected(rows, &b"0123456789\n".repeat(2_000), (64, 100), &lines, None);
 }
 
 fn just_fit(rows: &mut Rows) {

@@ -15,6 +15,7 @@ pub static ROWS: &[Row] = &[
             }
         }
     }),
+    ("a_block_and_a_map_of_2_000_headers", many_headers),
     ("a_block_is_rejected_at_its_first_line_that_is_not_a_header", |rows| {
         for (block, number, start, fault) in [
             ("Host: a\r\nAcc: b\nH(st: c\nx", 2, 16, Fault("token", Some(1))),
@@ -42,20 +43,31 @@ pub static ROWS: &[Row] = &[
                 Ok(settings) => asked.want.all(settings),
                 Err(printed) => asked.want.put(printed),
             }
-        })
+        });
+        let file = "key = some value\n".repeat(2_000);
+        rows.ask(|asked| {
+            calls::ask_settings(asked, file.as_bytes());
+            asked.want.times(2_000, ("key", "some value"));
+        });
     }),
     ("rows_have_a_field_for_each_column", table_rows),
     ("screens_show_controls_tabs_and_long_lines", |rows| {
         for (text, width, shown, column) in SCREENS {
             rows.expect((shown, column), |asked| calls::ask_screen(asked, width, text.as_bytes()));
         }
+        let line = "0123456789".repeat(8);
+        let shown = [line.as_str(); 250].join("\n");
+        rows.expect((shown, 80), |asked| calls::ask_screen(asked, 80, line.repeat(250).as_bytes()));
     }),
     ("identifiers_at_the_start", |rows| {
         for (name, rest) in IDENTIFIERS {
             rows.expect((name, rest), |asked| calls::ask_identifier(asked, [name, rest].concat().as_bytes()));
         }
     }),
-    ("a_run_of_other_bytes_becomes_one_mark", |rows| ask_table(&COPIES, calls::ask_lossy, rows)),
+    ("a_run_of_other_bytes_becomes_one_mark", |rows| {
+        ask_table(&COPIES, calls::ask_lossy, rows);
+        rows.expect("a?".repeat(10_000), |asked| calls::ask_lossy(asked, &b"a\xff\xfe".repeat(10_000)));
+    }),
     ("last_lines_with_each_ending", last_lines),
 ];
 
@@ -108,6 +120,16 @@ static BLOCKS: [(&str, &[(&str, &str)], &[Named]); 3] = [
     ),
 ];
 
+fn many_headers(rows: &mut Rows) {
+    let names: Vec<String> = (0..2_000).map(|number| format!("X-{number}")).collect();
+    let headers: Vec<(&str, &str)> = names.iter().map(|name| (name.as_str(), "some value")).collect();
+    let block: String = names.iter().map(|name| format!("{name}: some value\r\n")).collect();
+    for number in (0..2_100).step_by(50).chain([1_999]) {
+        let (name, named) = (format!("x-{number}"), (number < 2_000).then_some((number, number)));
+        rows.ask(|asked| ask_headers(name.as_bytes(), block.as_bytes(), &headers, named, asked));
+    }
+}
+
 /// A name, and its host in lower case.
 static HOSTS: [(&str, &str); 6] = [
     ("a", "a"),
@@ -125,9 +147,9 @@ static REJECTED_HOSTS: [(&str, &[(&str, usize)]); 3] = [
     ("hyphen", &[("-a", 0), ("a-", 1), ("ab.-", 3), ("ab.cd-.e", 5), ("ab.-c-", 3)]),
 ];
 
-/// Asks for the host of a name, and compares the name with itself.
+/// Asks for the host of a name, and compares the name with itself in lower case.
 fn ask_host(name: &str, host: Result<&str, Fault>, asked: &mut Asked) {
-    ask_hosts(name.as_bytes(), name.as_bytes(), host, host.map(|_| Equal), asked);
+    ask_hosts(name.as_bytes(), name.to_ascii_lowercase().as_bytes(), host, host.map(|_| Equal), asked);
 }
 
 /// A label of 62 characters.
@@ -192,6 +214,10 @@ static FILES: [(&str, Result<&[(&str, &str)], &str>); 7] = [
 
 fn table_rows(rows: &mut Rows) {
     rows.expect(("ab", "c d", "e"), |asked| calls::ask_row(asked, 3, b"ab\tc d\te"));
+    rows.ask(|asked| {
+        calls::ask_row(asked, 300, ["field"; 300].join("\t").as_bytes());
+        asked.want.times(300, "field");
+    });
     for (row, field, start) in [("", 0, 0), ("\tb\tc", 0, 0), ("ab\t\tc", 1, 3), ("ab\tcd\t", 2, 6), ("\t\t\t\t", 0, 0)] {
         rows.expect(("empty", field, start), |asked| calls::ask_row(asked, 3, row.as_bytes()));
     }

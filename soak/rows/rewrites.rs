@@ -33,12 +33,14 @@ pub static ROWS: &[Row] = &[
         rows.each(
             SOURCES.iter().flat_map(|text| ["", ";", ", "].map(|separator| (text, separator))),
             |(text, separator), asked| ask_joined(b',', text, separator, asked),
-        )
+        );
+        rows.ask(|asked| ask_joined(b',', &"a,".repeat(10_000), ", ", asked));
     }),
     ("repeated_texts", |rows| {
         rows.each(SOURCES.iter().flat_map(|text| (0..4).map(move |times| (text, times))), |(text, times), asked| {
             ask_repeated(times, text.as_bytes(), asked)
-        })
+        });
+        rows.ask(|asked| ask_repeated(2, &b"ab".repeat(5_000), asked));
     }),
     ("texts_are_filled_up_as_format_does", |rows| {
         for (text, width) in ["", "a", "ab", "abc"].iter().flat_map(|text| (0..9).map(move |width| (text, width))) {
@@ -57,9 +59,12 @@ pub static ROWS: &[Row] = &[
                 }
             }
         }
+        rows.ask(|asked| ask_range_edits(RANGE, 0, 0, &b"ab".repeat(5_000), &b"ab".repeat(10_000), asked));
     }),
     ("strings_cut_in_two", |rows| {
-        rows.each([("", 0), ("abc", 0), ("abc", 2), ("abc", 3)], |(text, at), asked| ask_split_off(at, text.as_bytes(), asked))
+        let long = "ab".repeat(10_000);
+        let cuts = [("", 0), ("abc", 0), ("abc", 2), ("abc", 3), (long.as_str(), 5_000)];
+        rows.each(cuts, |(text, at), asked| ask_split_off(at, text.as_bytes(), asked))
     }),
 ];
 
@@ -126,6 +131,7 @@ static UNESCAPED: [(&str, Result<&str, Escaped>); 19] = [
 
 fn unescaped(rows: &mut Rows) {
     rows.each(UNESCAPED, |(text, expected), asked| ask_unescaped(text.as_bytes(), expected, asked));
+    rows.ask(|asked| ask_unescaped(&b"a\\n".repeat(10_000), Ok("a\n".repeat(10_000)), asked));
 }
 
 /// A text, and the text between the quotes at its start and what comes after it.

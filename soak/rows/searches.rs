@@ -30,7 +30,10 @@ pub static ROWS: &[Row] = &[
         }
     }),
     ("remainder_of_the_first_pieces", first_pieces_left),
-    ("replaced_texts", |rows| rows.each(REPLACED, |(text, needle, to), asked| ask_replace(text, needle, to, asked))),
+    ("replaced_texts", |rows| {
+        rows.each(REPLACED, |(text, needle, to), asked| ask_replace(text, needle, to, asked));
+        rows.ask(|asked| ask_replace(&"a,".repeat(10_000), ",", ", ", asked));
+    }),
     ("kept_characters", |rows| {
         rows.each(["", "-", "abc", "a-b--c", "--a", "a--"], |text, asked| ask_retain(b'-', text.as_bytes(), asked))
     }),

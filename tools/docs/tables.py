@@ -99,7 +99,7 @@ def evidence_table(_):
     (row_answers, rows, _), (kind_answers, kinds, seed) = (re.match(r"(\d+) answers of (\d+) \w+(.*)", it).groups() for it in answers)
     table = [("mutations that each full check tries", mutations("crates/*/must-fail/*.edit", "crates/*/mutations/each_check.edit")),
              ("mutations with a record", mutations("crates/*/mutations/recorded.edit", "tools/mutants/edits/*.edit")),
-             ("bodies that give up, each with its test", listed("giving_up.txt")),
+             ("bodies that give up, each with its row or test", listed("giving_up.txt")),
              ("survivors, each with its reason", listed("survivors.txt")),
              (f"answers of {rows} rows, at {of_commit}", row_answers), (f"answers of {kinds} kinds, at {of_commit}{seed}", kind_answers)]
     return ["| What | Number |", "|---|--:|", *[f"| {what} | {int(number):,} |" for what, number in table]]

@@ -1,7 +1,8 @@
 """Shows that the tests see a call that gives up at some length although there is memory, which no contract rejects. Writes
-each body of giving_up.txt, asks the prover, which has to accept it, and then runs its test, which has to fail. Bodies that
-different tests of one crate reject are tried in one round of tests; JOBS (2) rounds run at once. Status 1: the prover rejects
-a body, or the tests pass with it."""
+each body of giving_up.txt, asks the prover, which has to accept it, and then asks its row of the differential test, of which an
+answer has to differ, or runs its test, which has to fail. One program has all bodies with a row, and asks one row after another.
+Bodies that different tests of one crate reject are tried in one round of tests; JOBS (2) rounds run at once. Status 1: the prover
+rejects a body, or no row and no test does."""
 import os
 import re
 import shutil
@@ -11,6 +12,7 @@ from concurrent.futures import ThreadPoolExecutor
 from dataclasses import dataclass
 from pathlib import Path
 
+import differential
 import libraries
 from mutation import Crate
 from operators import Mutant
@@ -19,9 +21,9 @@ from planting import copied, narrow, run_tests
 
 @dataclass
 class Body:
-    """A line of the list: a function, a statement and where it goes, and the test that rejects it. Its words may be `alone`, if
-    other tests of its crate reject it too, so that it is tried in a round of its own; and `by-hand`, if the contract allows it
-    but the prover would need a proof by hand, so that it is not asked."""
+    """A line of the list: a function, a statement and where it goes, and the row or the test that rejects it. Its words may be
+    `alone`, if other tests of its crate reject it too, so that it is tried in a round of its own; and `by-hand`, if the contract
+    allows it but the prover would need a proof by hand, so that it is not asked."""
 
     crate: str
     file: str
@@ -35,8 +37,16 @@ class Body:
     def tests(self):
         return self.test.partition("::")[0]
 
-    def mutant(self, crate, number):
-        """The function with the statement, as a mutant of its crate."""
+    @property
+    def row(self):
+        """The row that rejects it; none if a test does."""
+        return self.test.partition("row ")[2]
+
+    def __str__(self):
+        return f"{self.crate} {self.file} {self.function}, {self.statement}: {self.test}"
+
+    def mutant(self, crate, number, written=str):
+        """The function with the statement, as it is written, as a mutant of its crate."""
         owner, _, name = self.function.rpartition(" ")
         found = [f for f in crate.functions if (f.file, f.name) == (self.file, name) and owned(f, owner)]
         if len(found) != 1:
@@ -46,7 +56,7 @@ class Body:
         at = f.opens + 1 if self.before == "-" else text.find(self.before, f.opens, f.end)
         if at < 0:
             raise SystemExit(f"mutants: {self.file} {self.function} has no `{self.before}`")
-        return Mutant(f, "giving up", [(at, at, f" {self.statement} ")], self.statement, number)
+        return Mutant(f, "giving up", [(at, at, f" {written(self.statement)} ")], self.statement, number)
 
 
 def owned(function, owner):
@@ -82,6 +92,42 @@ def proofs(settings, scratch, bodies):
     return wrong
 
 
+def rows(settings, folder, bodies):
+    """Asks the row of each body while it is planted, and before that while no body is. Returns the number of bodies with which no
+    answer of their row differs, and of rows of which an answer differs without a body."""
+    numbered = list(enumerate(bodies, 1))
+    copy, plan = copied(settings.root, folder / "copy", False), [(0, row) for row in dict.fromkeys(it.row for it in bodies)]
+    plan += [(number, it.row) for number, it in numbered]
+    # (the reader of sources does not know the block that `plant` writes, so all are read first)
+    for crate in [Crate(copy, name) for name in dict.fromkeys(it.crate for it in bodies)]:
+        plant(crate, [(number, it) for number, it in numbered if it.crate == crate.name])
+    differ, said = differential.ask_rows(copy, folder / "program", plan)
+    wrong = 0
+    for number, row in plan:
+        count = differ.get((number, row))
+        is_right = count is not None and (count > 0) == (number > 0)
+        wrong += not is_right
+        how = "is not asked" if count is None else "sees it" if count else "sees nothing"
+        print(f"{bodies[number - 1]} {how}" if number else f"row {row} without a body {how}", flush=True)
+    if len(differ) < len(plan):
+        print(said[-4000:], flush=True)
+    return wrong
+
+
+def plant(crate, numbered):
+    """Writes bodies into a crate of a copy, each guarded by its number."""
+    whole = {}
+    for number, it in numbered:
+        made = it.mutant(crate, number, lambda text, number=number: differential.guarded(text, number))
+        first = whole.setdefault(id(made.function), made)
+        first.edits += [] if first is made else made.edits
+    for made in whole.values():
+        made.edits.sort()
+    crate.write(list(whole.values()), True)
+    root = crate.folder / "src" / "lib.rt"
+    root.write_text(root.read_text(encoding="utf-8") + differential.GUARD, encoding="utf-8")
+
+
 def rounds(bodies):
     """The bodies in rounds: those of a round are rejected by different tests of one crate."""
     made = []
@@ -111,7 +157,7 @@ def tested(settings, folder, bodies):
         name = it.test.partition("::")[2]
         how = "fails" if name in failed else "passes" if name in ran else "does not run"
         wrong += how != "fails"
-        print(f"{it.crate} {it.file} {it.function}, {it.statement}: {it.test} {how}", flush=True)
+        print(f"{it} {how}", flush=True)
     if not ran:
         print(said[-2000:], flush=True)
     return wrong
@@ -121,19 +167,22 @@ def arguments(asks):
     asks.add_argument("--only", default="", metavar="WORD", help="the bodies whose line matches an expression")
     asks.add_argument("--list", action="store_true", help="print the bodies, and try none")
     asks.add_argument("--proofs", action="store_true", help="only ask the prover")
-    asks.add_argument("--tests", action="store_true", help="only run the tests")
+    asks.add_argument("--tests", action="store_true", help="only ask the rows and run the tests")
 
 
 def run(settings, given):
     bodies, wrong = listed(settings, given.only), 0
     if given.list:
-        print("\n".join(f"{it.crate} {it.file} {it.function}, {it.statement}: {it.test}" for it in bodies))
+        print("\n".join(map(str, bodies)))
         return 0
     libraries.ROOT = str(settings.root)
     with tempfile.TemporaryDirectory(prefix="giving-up-") as scratch:
         if not given.tests:
             wrong += proofs(settings, Path(scratch), bodies)
+        by_row = [it for it in bodies if it.row]
+        if by_row and not given.proofs:
+            wrong += rows(settings, Path(scratch), by_row)
         if not given.proofs:
-            wrong += tests(settings, Path(scratch), bodies)
-    print(f"{len(bodies)} bodies, {wrong} of them not accepted by the prover or not rejected by a test")
+            wrong += tests(settings, Path(scratch), [it for it in bodies if not it.row])
+    print(f"{len(bodies)} bodies, {wrong} of them not accepted by the prover or not rejected by a row or a test")
     return 1 if wrong else 0

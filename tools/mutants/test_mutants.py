@@ -2,6 +2,7 @@
 import contextlib
 import functools
 import io
+import re
 import sys
 import tempfile
 import unittest
@@ -10,6 +11,7 @@ from pathlib import Path
 
 sys.dont_write_bytecode = True
 sys.path[:0] = [str(Path(__file__).resolve().parents[2] / it) for it in ("tools/mutants", "tools/reader", "bin/lib")]
+import differential  # noqa: E402
 import giving_up  # noqa: E402
 import records  # noqa: E402
 from judge import expected, name_of  # noqa: E402
@@ -529,6 +531,45 @@ class Rounds(SmallCrate):
             placed("larger", mutations_of(ROUNDS)[0][1], self.crate)
 
 
+class Rows(SmallCrate):
+    """Bodies that rows of the differential test reject."""
+
+    BODIES = [
+        giving_up.Body("small", "src/lib.rt", "smaller", "-", "return a;", "row one"),
+        giving_up.Body("small", "src/lib.rt", "Pair half", "Ok", "return Err(s);", "small_tests::two"),
+        giving_up.Body("small", "src/lib.rt", "smaller", "if a", "return b;", "row two"),
+    ]
+
+    def test_what_rejects_a_body(self):
+        self.assertEqual([it.row for it in self.BODIES], ["one", "", "two"])
+
+    def test_each_body_is_guarded_by_its_number(self):
+        giving_up.plant(self.crate, list(enumerate(self.BODIES, 1)))
+        text = (self.crate.folder / "src" / "lib.rt").read_text(encoding="utf-8")
+        guards = re.findall(r"if crate::planted::is_planted\((\d)\) { (.*?) }", text)
+        self.assertEqual(guards, [("1", "return a;"), ("3", "return b;"), ("2", "return Err(s);")])
+        self.assertTrue(text.endswith(differential.GUARD))
+
+    def test_a_row_has_to_see_its_body_and_nothing_else(self):
+        for differ, wrong in (({(0, "one"): 0, (1, "one"): 2}, 0), ({(0, "one"): 0, (1, "one"): 0}, 1), ({(0, "one"): 1}, 2)):
+            with self.subTest(differ), contextlib.redirect_stdout(io.StringIO()), tempfile.TemporaryDirectory() as folder, \
+                    unittest.mock.patch("differential.ask_rows", lambda *_: (differ, "")):
+                settings = Settings(Path(self.folder.name), Path(self.folder.name))
+                self.assertEqual(giving_up.rows(settings, Path(folder), self.BODIES[:1]), wrong)
+
+    def test_an_argument_is_a_word_and_a_slice_is_two(self):
+        parameters = "alloc: Global, form: u8, is_small: bool, steps: &[Step], device: &Device, room: &mut [u8]"
+        arm, stub = differential.call_of(7, "edits", "ask_it", parameters)
+        taken = "alloc, word(0) as u8, word(1) & 1 == 1, items(2, word(2 + 1)), &items(4, 1)[0], bytes_mut(5)"
+        self.assertEqual(arm.strip(), f"7 => edits::ask_it({taken}),")
+        self.assertIn("ask_it(word_t w0, word_t w1, word_t w2, word_t w3, word_t w4, word_t w5, word_t w6) {", stub)
+        self.assertIn("return ask(7, all, sizeof all);", stub)
+
+    def test_how_answers_differ_is_read(self):
+        results = "body 0, row one: 0 differ\nbody 12, row two: 3 differ\nbody 13, row"
+        self.assertEqual(differential.differing(results), {(0, "one"): 0, (12, "two"): 3})
+
+
 class OfThisRepository(unittest.TestCase):
     ROOT = Path(__file__).resolve().parents[2]
     SETTINGS = Settings(ROOT, Path(__file__).resolve().parent)
@@ -551,6 +592,19 @@ class OfThisRepository(unittest.TestCase):
                     body.mutant(self.crate(body.crate), 0)
                 except SystemExit as fault:
                     self.fail(str(fault))
+
+    def test_each_row_that_a_body_names_is_there(self):
+        texts = [it.read_text(encoding="utf-8") for it in (self.ROOT / "soak" / "rows").glob("*.rs")]
+        there = {name for text in texts for name in re.findall(r'(?m)^    \("(\w+)", ', text)}
+        self.assertLessEqual({it.row for it in giving_up.listed(self.SETTINGS, "") if it.row}, there)
+
+    def test_the_program_of_the_rows_has_an_arm_for_each_call(self):
+        with tempfile.TemporaryDirectory() as folder:
+            stubs = differential.write_program(Path(folder) / "program")
+            main = (Path(folder) / "program/src/main.rt").read_text(encoding="utf-8")
+        declared = re.findall(r"(?m)^    fn (\w+)\(", (self.ROOT / "soak/calls.rs").read_text(encoding="utf-8"))
+        self.assertEqual(sorted(declared), sorted(re.findall(r"\d+ => \w+::(\w+)\(", main)))
+        self.assertEqual(sorted(declared), sorted(re.findall(r"(?m)^word_t (ask_\w+)\(", stubs)))
 
     def test_each_mutation_written_by_hand_can_be_applied(self):
         names = [it.name for it in sorted((self.ROOT / "crates").iterdir()) if (it / "src").is_dir()]

@@ -1,12 +1,13 @@
 //! Texts and characters as JSON values.
 
-use crate::answer::{Answer, Made, Put};
+use crate::answer::{Answer, Put};
 use ascii::json::JsonError;
 use ascii::{AsciiStr, json};
+use cookbook::values::through_json;
 use serde_json::Value;
 use std::alloc::{AllocError, Global};
 
-/// The JSON text of a view, the string read back from its value, and the text that the value of a string has.
+/// The JSON text of a view, the string read back from its value, and a string that was a JSON value.
 pub fn ask_json(alloc: Global, source: AsciiStr, answer: &mut Answer) {
     match source.to_json(alloc) {
         Ok(value) => {
@@ -15,17 +16,9 @@ pub fn ask_json(alloc: Global, source: AsciiStr, answer: &mut Answer) {
         }
         Err(error) => answer.put(error),
     }
-    answer.put_result(value_of_string(alloc, source));
-}
-
-fn value_of_string(alloc: Global, view: AsciiStr) -> Made<Value> {
-    view.to_ascii_string(alloc)?.to_json(alloc)
-}
-
-/// The text of a JSON string, or nothing.
-impl Put for Value {
-    fn put(self, answer: &mut Answer) {
-        answer.put(self.as_str());
+    match source.to_ascii_string(alloc) {
+        Ok(string) => answer.put(through_json(alloc, &string)),
+        Err(error) => answer.put(error),
     }
 }
 

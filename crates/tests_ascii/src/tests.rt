@@ -1,7 +1,6 @@
-//! What the differential test cannot ask of `ascii`: generic code at the types of a caller, the traits of std, what errors
-//! print, and long texts for the calls that may give up.
+//! What the differential test cannot ask of `ascii`: generic code at the types of a caller, the traits of std, and what errors
+//! print.
 
-mod long_texts;
 mod size_hints;
 mod strings;
 mod traits;

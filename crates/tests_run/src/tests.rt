@@ -1,9 +1,6 @@
-//! What has a type of the test's own, or is run unproved: devices, strings in an array, and long inputs. All other rows are
-//! those of `bin/soak`.
+//! What has a type of the test's own: devices, and strings in an array. All other rows are those of `bin/soak`.
 
 mod devices;
-mod flushes;
-mod long_inputs;
 mod strings_in_the_value;
 
 ghost use Rattle.std.specs.Prelude.{IsTrue};
