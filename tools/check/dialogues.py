@@ -347,10 +347,12 @@ def tests():
     return [*map(Talks, DIALOGUES), SendsMail(), StoresMail(), StoresInOrder(), *map(Runs, COMMANDS)]
 
 
-def faults():
-    """Runs the dialogues; returns the name of each, with what was wrong or None, and of those that were skipped, why."""
-    rows, result = tests(), unittest.TestResult()
+def faults(names=()):
+    """Runs the dialogues of these names, or all; returns the name of each, with what was wrong or None, and of those that were
+    skipped, why."""
+    rows, result = [it for it in tests() if not names or str(it) in names], unittest.TestResult()
+    ran = [str(it) for it in rows]
     unittest.TestSuite(rows).run(result)
     wrong = {str(test): text for test, text in result.failures + result.errors}
     skipped = {str(test): why for test, why in result.skipped}
-    return {str(row): wrong.get(str(row)) for row in tests() if str(row) not in skipped}, skipped
+    return {row: wrong.get(row) for row in ran if row not in skipped}, skipped

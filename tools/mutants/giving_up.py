@@ -1,14 +1,12 @@
 """Shows that the tests see a call that gives up at some length although there is memory, which no contract rejects. Writes
 each body of giving_up.txt, asks the prover, which has to accept it, and then asks its row of the differential test, of which an
-answer has to differ, or runs its test, which has to fail. One program has all bodies with a row, and asks one row after another.
-Bodies that different tests of one crate reject are tried in one round of tests; JOBS (2) rounds run at once. Status 1: the prover
-rejects a body, or no row and no test does."""
-import os
+answer has to differ, or runs its dialogue, which has to fail. One program has all bodies with a row, and asks one row after
+another. Status 1: the prover rejects a body, or no row and no dialogue does."""
 import re
 import shutil
+import subprocess
 import sys
 import tempfile
-from concurrent.futures import ThreadPoolExecutor
 from dataclasses import dataclass
 from pathlib import Path
 
@@ -16,14 +14,13 @@ import differential
 import libraries
 from mutation import Crate
 from operators import Mutant
-from planting import copied, narrow, run_tests
+from planting import copied
 
 
 @dataclass
 class Body:
-    """A line of the list: a function, a statement and where it goes, and the row or the test that rejects it. Its words may be
-    `alone`, if other tests of its crate reject it too, so that it is tried in a round of its own; and `by-hand`, if the contract
-    allows it but the prover would need a proof by hand, so that it is not asked."""
+    """A line of the list: a function, a statement and where it goes, and the row or the dialogue that rejects it. Its word may be
+    `by-hand`, if the contract allows it but the prover would need a proof by hand, so that it is not asked."""
 
     crate: str
     file: str
@@ -34,13 +31,14 @@ class Body:
     words: str = ""
 
     @property
-    def tests(self):
-        return self.test.partition("::")[0]
+    def row(self):
+        """The row that rejects it; none if a dialogue does."""
+        return self.test.partition("row ")[2]
 
     @property
-    def row(self):
-        """The row that rejects it; none if a test does."""
-        return self.test.partition("row ")[2]
+    def dialogue(self):
+        """The dialogue that rejects it; none if a row does."""
+        return self.test.partition("dialogue ")[2]
 
     def __str__(self):
         return f"{self.crate} {self.file} {self.function}, {self.statement}: {self.test}"
@@ -128,38 +126,18 @@ def plant(crate, numbered):
     root.write_text(root.read_text(encoding="utf-8") + differential.GUARD, encoding="utf-8")
 
 
-def rounds(bodies):
-    """The bodies in rounds: those of a round are rejected by different tests of one crate."""
-    made = []
-    for it in bodies:
-        free = [r for r in made if r[0].tests == it.tests and "alone" not in it.words + r[0].words and all(b.test != it.test for b in r)]
-        free[0].append(it) if free else made.append([it])
-    return made
-
-
-def tests(settings, scratch, bodies):
-    """Runs the tests with the bodies, round by round. Returns the number of bodies with which their test does not fail."""
-    with ThreadPoolExecutor(int(os.environ.get("JOBS", "2"))) as pool:
-        return sum(pool.map(lambda it: tested(settings, scratch / f"tests{it[0]}", it[1]), enumerate(rounds(bodies))))
-
-
-def tested(settings, folder, bodies):
-    """Runs the tests of these bodies, and prints which fail. Returns the number of those that have to fail and do not."""
-    copy = copied(settings.root, folder, False)
-    narrow(copy / "crates" / bodies[0].tests, {it.test.partition("::")[2] for it in bodies})
-    for name in {it.crate for it in bodies}:
-        crate = Crate(copy, name)
-        crate.write([it.mutant(crate, n) for n, it in enumerate(bodies) if it.crate == name], True)
-    ran, failed, said = run_tests(copy / "crates" / bodies[0].tests)
-    shutil.rmtree(folder)
+def talks(settings, folder, bodies):
+    """Runs the dialogue of each body with the program that has it. Returns the number of bodies with which it does not fail."""
     wrong = 0
-    for it in bodies:
-        name = it.test.partition("::")[2]
-        how = "fails" if name in failed else "passes" if name in ran else "does not run"
-        wrong += how != "fails"
-        print(f"{it} {how}", flush=True)
-    if not ran:
-        print(said[-2000:], flush=True)
+    for number, it in enumerate(bodies):
+        copy = copied(settings.root, folder / f"copy{number}", True)
+        crate = Crate(copy, it.crate)
+        crate.write([it.mutant(crate, number)], True)
+        ran = subprocess.run(["bin/test", "dialogues", it.dialogue], cwd=copy, capture_output=True, text=True, stdin=subprocess.DEVNULL)
+        fails = f"\n{it.dialogue}: " in ran.stdout
+        wrong += not fails
+        print(f"{it} {'fails' if fails else 'does not fail'}", ran.stdout[-2000:] if not fails else "", flush=True)
+        shutil.rmtree(copy)
     return wrong
 
 
@@ -167,7 +145,7 @@ def arguments(asks):
     asks.add_argument("--only", default="", metavar="WORD", help="the bodies whose line matches an expression")
     asks.add_argument("--list", action="store_true", help="print the bodies, and try none")
     asks.add_argument("--proofs", action="store_true", help="only ask the prover")
-    asks.add_argument("--tests", action="store_true", help="only ask the rows and run the tests")
+    asks.add_argument("--tests", action="store_true", help="only ask the rows and run the dialogues")
 
 
 def run(settings, given):
@@ -183,6 +161,6 @@ def run(settings, given):
         if by_row and not given.proofs:
             wrong += rows(settings, Path(scratch), by_row)
         if not given.proofs:
-            wrong += tests(settings, Path(scratch), [it for it in bodies if not it.row])
-    print(f"{len(bodies)} bodies, {wrong} of them not accepted by the prover or not rejected by a row or a test")
+            wrong += talks(settings, Path(scratch), [it for it in bodies if it.dialogue])
+    print(f"{len(bodies)} bodies, {wrong} of them not accepted by the prover or not rejected by a row or a dialogue")
     return 1 if wrong else 0

@@ -1,6 +1,7 @@
 """Shows that a test rejects each mutant that the prover accepts although it changes an answer. These are the lines of
-survivors.txt whose reason names a test, as `rejected by CRATE::TEST`, or a call of a program, as `rejected by .., at "NAME"`.
-Plants each in a copy of the repository, and runs the test, or the `calls` of settings.txt: the one that is named has to fail.
+survivors.txt whose reason names a test, as `rejected by CRATE::TEST`, or a row of a command, as `rejected by COMMAND, at "NAME"`;
+`bin/test` stands for the `calls` of settings.txt. Plants each in a copy of the repository, and runs the test or the command: what
+is named has to fail.
 JOBS (2) are tried at once. Status 1: one of them is not rejected."""
 import collections
 import os
@@ -20,17 +21,18 @@ from planting import copied, narrow, run_tests
 
 # How a reason names a test, or a call.
 TEST = re.compile(r"rejected by (\w+)::([\w:]+)")
-CALL = re.compile(r'rejected by .*, at "(.*)"')
+CALL = re.compile(r'rejected by (.*), at "(.*)"')
 
 
 @dataclass
 class Survivor:
-    """A mutant and what rejects it: a call of the program, or a test of a crate."""
+    """A mutant and what rejects it: a row of a command, or a test of a crate."""
 
     crate: str
     mutant: Mutant
     by: str
     tests: str = ""
+    command: str = ""
 
     def __str__(self):
         by = f"{self.tests}::{self.by}" if self.tests else self.by
@@ -64,7 +66,7 @@ def survivor(crate, mutant, reason):
     """A mutant with what rejects it, or nothing if the reason names nothing."""
     call, test = CALL.search(reason), TEST.search(reason)
     if call:
-        return Survivor(crate, mutant, call[1])
+        return Survivor(crate, mutant, call[2], command="" if call[1] == "bin/test" else call[1])
     return Survivor(crate, mutant, test[2], test[1]) if test else None
 
 
@@ -79,7 +81,7 @@ def by_test(settings, survivor, folder):
 
 
 def by_calls(settings, survivors, folder):
-    """How many of the survivors change the call of their program that has to reject them."""
+    """How many of the survivors change the row of their command that has to reject them."""
     copy, count = copied(settings.root, folder, True) if survivors else folder, 0
     for it in survivors:
         crate = it.plant(copy)
@@ -92,7 +94,7 @@ def called(settings, survivor, copy):
     """Whether the named call fails, after which no more are made; and what was said, if the program was not built."""
     said = ""
     with subprocess.Popen(
-        settings.calls.format(crate=survivor.crate).split(), cwd=copy, text=True, stdin=subprocess.DEVNULL, stdout=subprocess.PIPE,
+        (survivor.command or settings.calls.format(crate=survivor.crate)).split(), cwd=copy, text=True, stdin=subprocess.DEVNULL, stdout=subprocess.PIPE,
         stderr=subprocess.STDOUT, errors="replace", start_new_session=True,
     ) as started:  # fmt: skip
         for line in started.stdout:
