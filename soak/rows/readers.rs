@@ -109,8 +109,12 @@ fn collected(rows: &mut Rows) {
     ask_expected(rows, b"y\nabc\r\n\rz\r", (6, 100), &lines, None);
     let lines = [(0, "GET / ", "crlf"), (8, "", "crlf"), (10, "body", "none")];
     ask_expected(rows, b"GET / \r\n\r\nbody", (16, 100), &lines, None);
-    let lines: Vec<_> = (0..2_000_usize).map(|number| (11 * number, "0123456789", "lf")).collect();
-    ask_expected(rows, &b"0123456789\n".repeat(2_000), (64, 100), &lines, None);
+    let many = b"0123456789\n".repeat(2_000);
+    rows.ask(|asked| {
+        ask_collected(&mut Model::new(&many, 64), &many, 64, giving(100), asked);
+        // Each allocation fails in shorter texts.
+        asked.want.has_other_failures = true;
+    });
 }
 
 fn just_fit(rows: &mut Rows) {
