@@ -43,8 +43,7 @@ with_starts-append s (x ∷ xs) ys =
     let far : (s + line_size x) + length (flat_map line_text xs) ≡ s + length
     (line_text x ++ flat_map line_text xs) =
     omega (arith, length-append (line_text x) (flat_map line_text xs)) in
-    ap (λ zs. record { start = s; item = x } ∷ zs) (with_starts-append (s + line_size x) xs ys
-    ∙ ap (λ n. with_starts line_size (s + line_size x) xs ++ with_starts line_size n ys) far)
+    rw (with_starts-append (s + line_size x) xs ys, far)
 
 ended-append : (xs ys : List Line) → All (λ line. line.ending ≢ Absent) xs
     → All (λ line. line.ending ≢ Absent) (take (length ys - 1) ys)

@@ -129,6 +129,12 @@ pub read_is : {a b : SourceState} (is_at_end : Bool) (read : List ℕ)
 read_is {a} {b} true read is reads = (reads, is_none read (sym is))
 read_is {a} {b} false read is reads = (reads, is_some read (sym is))
 
+-- a flush that was done
+flushed_by : {C : Type 0} (q : Bool) (a b : Writing C) (done : Unit {0})
+    → FlushesFrom q a (Ok done) b → (q ≡ false) × Flushes a.state b.state
+flushed_by false a b done flushes = (refl, flushes)
+flushed_by true a b done (is, same) = let e : Ok done ≡ Err write.Write = is in cc
+
 pub then_right : {P Q : Type 0} → P ⊎ Q → ¬ P → Q
 then_right (inl first) apart = absurd (apart first)
 then_right (inr then) apart = then
@@ -488,44 +494,35 @@ module _ {H : Type 0} (answers : H → Line → List Reply → Next → H → Ty
 
     -- they were sent
     module _ (done : Unit {0}) (sends : SendsOut (saying_of mid) (Ok done) (saying_of now)) where
-      sent_all : (mid.state.output.buffer.is_broken ≡ false)
-          × Settled so.talk.now (place_of now.state.talk last) now.state.output
-          × (now.state.output.aside ≡ mid.state.output.aside)
-      sent_all = go mid.state.output.buffer.is_broken refl sends.0
-        where
-          go : (q : Bool) → mid.state.output.buffer.is_broken ≡ q
-              → FlushesFrom q (writing_of mid) (Ok done) (writing_of now)
-              → (mid.state.output.buffer.is_broken ≡ false)
-              × Settled so.talk.now (place_of now.state.talk last) now.state.output
-              × (now.state.output.aside ≡ mid.state.output.aside)
-          go false whole f = (
-            whole,
-            base-flushed mid.state.output now.state.output base_of whole f,
-            f.aside,
-          )
-          go true broken same = let e : Ok done ≡ Err write.Write = same.0 in cc
+      flushed : (mid.state.output.buffer.is_broken ≡ false)
+          × Flushes mid.state.output now.state.output
+      flushed = flushed_by mid.state.output.buffer.is_broken (writing_of mid) (writing_of now) done
+          sends.0
+
+      settled : Settled so.talk.now (place_of now.state.talk last) now.state.output
+      settled = base-flushed mid.state.output now.state.output base_of flushed.0 flushed.1
 
       -- a conversation that is over has been held
       pub serves_all : (why : Stop) → now.state.talk.awaited ≡ Nothing why
           → Serves answers refuses old handler why now.state last
       serves_all why over = record {
-        talk = talk_after sent_all.2 sends.1 sent_all.1.base;
+        talk = talk_after flushed.1.aside sends.1 settled.base;
         stops = inr over;
         used = λ is. so.used (over ∙ ap Nothing is);
-        end = rw (same, sent_all.2) left;
+        end = rw (same, flushed.1.aside) left;
         wrote = wrote why over;
       }
         where
           wrote : (why : Stop) → now.state.talk.awaited ≡ Nothing why
-              → Wrote why old.output sent_all.1.base.events (said_bytes sent_all.1.base.steps)
+              → Wrote why old.output settled.base.events (said_bytes settled.base.steps)
               now.state.output
-          wrote stop.Writer is = absurd (false≢true (sym sent_all.0 ∙ so.failed is))
+          wrote stop.Writer is = absurd (false≢true (sym flushed.0 ∙ so.failed is))
           wrote _ is = (
-            settled_sent sent_all.1,
-            sent_all.1.flushed,
-            sent_all.1.none,
-            rw sent_all.1.whole at sent_all.1.base.count,
-            sent_all.1.whole,
+            settled_sent settled,
+            settled.flushed,
+            settled.none,
+            rw settled.whole at settled.base.count,
+            settled.whole,
           )
 
       -- the device was read once more
@@ -540,17 +537,17 @@ module _ {H : Type 0} (answers : H → Line → List Reply → Next → H → Ty
               (place_with now.state.talk last r.read) r.mid (place_of new next) said
           converses_now = rw (so.talk.endings, so.talk.size) at r.converses
 
-          settled : Settled supply.Open (place_of now.state.talk last) now.state.output
-          settled = subst (λ n. Settled n (place_of now.state.talk last) now.state.output)
-              (elim so.going [ inl is ↦ is | inr over ↦ absurd (apart over) ]) sent_all.1
+          settled_open : Settled supply.Open (place_of now.state.talk last) now.state.output
+          settled_open = subst (λ n. Settled n (place_of now.state.talk last) now.state.output)
+              (elim so.going [ inl is ↦ is | inr over ↦ absurd (apart over) ]) settled
 
           pub so_far-read : SoFar answers refuses old handler
               (record { talk = new; output = said.state; ending = said.ending }) next
           so_far-read = so_far r.now (place_with now.state.talk last r.read) r.mid said new next
               (r.ending ∙ (sends.1 ∙ so.talk.ending))
-              (then_read (place_of now.state.talk last) now.state.output r.mid.state settled
+              (then_read (place_of now.state.talk last) now.state.output r.mid.state settled_open
               lacks_now r.buffer r.now r.read r.reads)
-              (ap (λ (buf : BufferState). buf.is_broken) r.buffer ∙ settled.whole) converses_now
+              (ap (λ (buf : BufferState). buf.is_broken) r.buffer ∙ settled_open.whole) converses_now
               apart r.ended r.unread (r.size ∙ so.talk.size) (r.endings ∙ so.talk.endings)
 
           pub reads_smaller : mid.state.talk.start < 2 ^ 64

@@ -261,10 +261,8 @@ passed_more endings limit old now after a b c passed read all more reads is last
     let so_far = all.so_far in
     record {
       bytes = so_far.bytes;
-      gathers = Gathers-read (HasNoEnd endings) old.held old.is_at_end now.is_at_end
-          after.is_at_end a b c (so_far.bytes ++ now.held) read so_far.gathers more
-          so_far.failures all.none (so_far.bytes ++ after.held) reads (simp (is, append_assoc))
-          last;
+      gathers = Gathers-read _ _ _ _ _ _ _ _ _ read so_far.gathers more so_far.failures all.none
+          (so_far.bytes ++ after.held) reads (simp (is, append_assoc)) last;
       counts = so_far.counts;
       within = so_far.within;
       free = so_far.free;
@@ -298,10 +296,8 @@ pass_failed endings limit old now after a b c passed all more fails count is las
     let so_far = all.so_far in
     record {
       bytes = so_far.bytes;
-      gathers = Gathers-failed (HasNoEnd endings) old.held old.is_at_end now.is_at_end
-          after.is_at_end a b c (so_far.bytes ++ now.held) (so_far.bytes ++ after.held)
-          so_far.gathers more so_far.failures all.none fails (ap (λ xs. so_far.bytes ++ xs) is)
-          last;
+      gathers = Gathers-failed _ _ _ _ _ _ _ _ _ _ so_far.gathers more so_far.failures all.none
+          fails (ap (λ xs. so_far.bytes ++ xs) is) last;
       counts = so_far.counts;
       within = so_far.within;
       ends = rw is (all.none, all.one, so_far.clean);

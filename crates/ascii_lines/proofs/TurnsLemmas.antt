@@ -460,7 +460,7 @@ module _ {H K : Type 0} (answers : H → Line → List Reply → Next → H → 
       let faults : Faults supply.Failed what start size text fault.Read =
       (text, [], sym (append-nil text), must, λ _. (refl, refl), λ is. cc) in
       let old = place_at (Input asked) handler start text in
-      then_over answers refuses endings size supply.Failed old out old out
+      then_over _ _ _ _ _ _ _ _ _
       (Going-first answers refuses endings size supply.Failed old out asks (λ is. cc))
       (place_at (Nothing (stop.Reader fault.Read)) last start text) said (rejected fault.Read gave)
       (then, what, inr (refl, λ _. inl tt), request, wants, tells, faults, refl, refl)
@@ -474,7 +474,7 @@ module _ {H K : Type 0} (answers : H → Line → List Reply → Next → H → 
       (place_at (Nothing (stop.Reader fault.Read)) handler start text) out
   fail_line then asks lacks =
       let old = place_at (LineEnd then) handler start text in
-      then_over answers refuses endings size supply.Failed old out old out
+      then_over _ _ _ _ _ _ _ _ _
       (Going-first answers refuses endings size supply.Failed old out asks (λ is. cc))
       (place_at (Nothing (stop.Reader fault.Read)) handler start text) out (skipped []) (
         refl,

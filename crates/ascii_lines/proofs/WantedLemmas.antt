@@ -30,19 +30,18 @@ module _ (held : List ℕ) (m n : ℕ) (low : n ≤ m) where
   at_front : (k : ℕ) → k < n → get_or (take m held) k 0 ≡ get_or held k 0
   at_front k less = get_or-take m held k 0 (omega (arith, low, less))
 
+  at_whole : (k : ℕ) → k < n → get_or held k 0 ≡ get_or (take m held) k 0
+  at_whole k less = sym (at_front k less)
+
   pub searched_front : (wanted : Wanted) → IsSearched wanted held n
       → IsSearched wanted (take m held) n
-  searched_front (Line endings) free =
-      FreeUpTo-same endings held (take m held) n (λ k less. sym (at_front k less)) free
-  searched_front (Bytes endings) free =
-      FreeUpTo-same endings held (take m held) n (λ k less. sym (at_front k less)) free
+  searched_front (Line endings) free = FreeUpTo-same endings held (take m held) n at_whole free
+  searched_front (Bytes endings) free = FreeUpTo-same endings held (take m held) n at_whole free
   searched_front (Part count) free = tt
 
   pub ends_front : (wanted : Wanted) → EndsAt wanted held n → EndsAt wanted (take m held) n
-  ends_front (Line endings) ends =
-      IsFirstStop-same endings held (take m held) n (λ k less. sym (at_front k less)) ends
-  ends_front (Bytes endings) ends =
-      IsFirstStop-same endings held (take m held) n (λ k less. sym (at_front k less)) ends
+  ends_front (Line endings) ends = IsFirstStop-same endings held (take m held) n at_whole ends
+  ends_front (Bytes endings) ends = IsFirstStop-same endings held (take m held) n at_whole ends
   ends_front (Part count) is = is
 
   pub lacks_whole : (wanted : Wanted) → LacksUpTo wanted (take m held) n

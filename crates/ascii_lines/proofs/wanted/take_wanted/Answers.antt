@@ -14,9 +14,7 @@ use Rattle.ascii_lines.proofs.wanted.take_wanted.Goals as goal
 
 pub fills-init : goal.fills-init
 fills-init g c = (
-  Gathers-nil (MustRead c.args.wanted c.args.start c.args.buffer.now.size)
-      c.args.buffer.now.held c.args.buffer.now.is_at_end
-      (source_state g.S.Source c.args.source.now) c.requires,
+  Gathers-nil _ _ _ (source_state g.S.Source c.args.source.now) c.requires,
   refl,
   refl,
   inl refl,
