@@ -1,6 +1,6 @@
 -- A conversation as its handler sees it.
-use Rattle.std.proofs.Common.{◌≡◌, ◌∙◌, ℕ, List, [], ◌∷◌, ◌++◌, None, Option, Some, append-nil, ap}
-use Rattle.std.proofs.Common.{arith, inl, inr, length, length-append, true, refl, subst, sym}
+use Rattle.std.proofs.Common.{◌≡◌, ◌∙◌, ℕ, List, [], ◌∷◌, ◌++◌, Option, Some, append-nil, ap, arith}
+use Rattle.std.proofs.Common.{inl, inr, length, length-append, true, refl, subst, sym}
 use Rattle.std.specs.Io.KnownBytes.{Consumes, IsAtEnd}
 use Rattle.std.specs.List.{flat_map}
 use Rattle.std.specs.Prelude.{IfSome}
@@ -63,10 +63,7 @@ module _ {H : Type 0} (answers : H → Line → List Reply → Next → H → Ty
 -- the bytes that a source gave up to its end are all that it had
 all_given : (old left : Option (List ℕ)) (given : List ℕ) (P : List ℕ → Type 0)
     → Consumes old left given → IsAtEnd left → P given → IfSome old P
-all_given None left given P gave ends holds = tt
-all_given (Some xs) None given P gave ends holds = absurd gave
-all_given (Some xs) (Some ys) given P gave ends holds =
-    rw (gave, ends, append-nil given) holds
+all_given old left given P gave ends holds = grind (arith, append-nil)
 
 -- there are no lines in no bytes
 no_lines : (endings : Endings) (lines : List Line) → LinesEndedBy endings [] lines → lines ≡ []
@@ -131,12 +128,7 @@ module _ {H : Type 0} (answers : H → Line → List Reply → Next → H → Ty
         where
           ended : (why : Stop) → Stops now next.Line a.text why
               → (why ≡ stop.EndOfInput) × (steps ≡ []) → TakesLines a.text (skipped bytes ∷ steps)
-          ended stop.EndOfInput stops last =
-              subst (λ ss. TakesLines a.text (skipped bytes ∷ ss)) (sym last.1)
-              (subst (λ text. TakesLines text (skipped bytes ∷ [])) (sym stops.2)
-              (record { are = LinesEndedBy-nil endings; says = λ _. refl }))
-          ended stop.Writer stops last = let e : stop.Writer ≡ stop.EndOfInput = last.0 in cc
-          ended _ stops last = absurd stops
+          ended why stops last = grind (arith, LinesEndedBy-nil)
 
 module _ {H : Type 0} (answers : H → Line → List Reply → Next → H → Type 0)
     (refuses : H → LineError → List Reply → Next → H → Type 0) (reply : Line → Reply)

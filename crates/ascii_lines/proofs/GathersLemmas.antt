@@ -43,15 +43,10 @@ some_reads (r ∷ reads) read none = cc
 reaches_read : (was mid is : Bool) (reads : List (List ℕ)) (read : List ℕ)
     → ReachesEnd was reads mid → mid ≡ false → (is ≡ true → read ≡ [])
     → ReachesEnd was (reads ++ read ∷ []) is
-reaches_read true mid is reads read (none, seen) more last =
-    absurd (false≢true (sym more ∙ seen))
-reaches_read false mid true reads read so_far more last =
-    (reads, ap (λ r. reads ++ r ∷ []) (last refl))
-reaches_read false mid false reads read so_far more last = tt
+reaches_read was mid is reads read so_far more last = grind arith
 
 pub no_reads_reach : (is_at_end : Bool) → ReachesEnd is_at_end [] is_at_end
-no_reads_reach true = (refl, refl)
-no_reads_reach false = tt
+no_reads_reach is_at_end = grind arith
 
 -- what a reader remembers of a read tells whether it returned bytes
 pub is_none : (read : List ℕ) → (length read == 0) ≡ true → read ≡ []
@@ -59,8 +54,7 @@ is_none [] zero = refl
 is_none (b ∷ read) zero = absurd (omega (arith, eqb-true (length (b ∷ read)) 0 zero))
 
 pub is_some : (read : List ℕ) → (length read == 0) ≡ false → read ≢ []
-is_some read other none =
-    false≢true (sym other ∙ ap (λ (xs : List ℕ). length xs == 0) none)
+is_some read other = grind arith
 
 pub Gathers-nil : (Must : List ℕ → Type 0) (held : List ℕ) (is_at_end : Bool) (a : SourceState)
     → KnowsEnd is_at_end a.rest → Gathers Must held is_at_end is_at_end a a held

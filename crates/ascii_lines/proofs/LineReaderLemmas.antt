@@ -214,17 +214,7 @@ module _ {S : Type 0} where
       → Next old result new → result ≡ shown
       → ((old.state.stage ≡ Open) × All IsEnded lines × NextFrom Open old shown new)
       ⊎ (IsDone old.state × (shown ≡ Ok None) × (new ≡ old))
-  next_by a lines old new result shown so_far next is = elim so_far.whole [
-    | inl more ↦ inl (
-      more.0,
-      more.1,
-      rw is at (subst (λ stage. NextFrom stage old result new) more.0 next),
-    )
-    | inr done ↦
-        let ended : NextFrom Ended old result new =
-        subst (λ stage. NextFrom stage old result new) done.ended next in
-        inr (done, sym is ∙ ended.0, ended.1)
-  ]
+  next_by a lines old new result shown so_far next is = grind arith
 
   pub one_more : (a : ReaderState) (lines : List (WithStart Line)) (old new : Reading S)
       (result : Result (Option ReadLine) LineError) (line : ReadLine) (last : WithStart Line)
@@ -290,13 +280,7 @@ module _ {S : Type 0} where
 told_parts : (old left : Option (List ℕ)) (read told : List ℕ) → old ≡ Some told
     → Consumes old left read → (more : List ℕ) × (told ≡ read ++ more)
     × (IsAtEnd left → more ≡ [])
-told_parts None left read told is gave = absurd (let e : None ≡ Some told = is in cc)
-told_parts (Some xs) None read told is gave = absurd gave
-told_parts (Some xs) (Some ys) read told is gave = (
-  ys,
-  (let e : Some xs ≡ Some told = is in let same : xs ≡ told = cc in sym same ∙ gave),
-  λ none. none,
-)
+told_parts old left read told is gave = grind (arith, append-nil)
 
 -- the lines yielded are the first lines of all bytes, and all of them at the end
 pub first_lines : (old new : ReaderState) (lines : List (WithStart Line)) (told : List ℕ)

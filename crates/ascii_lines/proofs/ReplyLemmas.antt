@@ -1,7 +1,6 @@
 -- Replies of a handler, one after another.
 use Rattle.std.proofs.Common.{◌≡◌, ℕ, List, [], ◌∷◌, ◌++◌, Bool, true, false, IsTrue, append_assoc}
-use Rattle.std.proofs.Common.{append-nil, Err, Ok, Result, ap, inl, inr, refl, subst, sym, ◌∙◌}
-use Rattle.std.specs.Prelude.{not}
+use Rattle.std.proofs.Common.{append-nil, Result, ap, inl, inr, refl, subst, sym, ◌∙◌, arith}
 use Rattle.std.proofs.lemmas.Bool.{false≢true}
 use Rattle.std.proofs.lemmas.Grind.{flat_map-append}
 use Rattle.std.proofs.lemmas.List.Folds.{list_all_at}
@@ -9,7 +8,6 @@ use Rattle.std.proofs.KnownBytes.{Appends-nil}
 use Rattle.ascii_devices.proofs.HistoryLemmas.{Grows-nil}
 use Rattle.ascii_devices.specs.Buffered.{OutputState}
 use Rattle.ascii_lines.specs.Failures.{one_more}
-use Rattle.ascii.specs.Endings.{is_line_break}
 use Rattle.ascii_lines.specs.LineWriter.{FailsToWrite, WritesBytes}
 use Rattle.ascii_lines.specs.Replies.{Reply, IsLineOutcome, Says, SaysBytes, Saying, is_unbroken}
 use Rattle.ascii_lines.specs.Replies.{line_given, line_reply, part_reply, reply_bytes, reply_text}
@@ -105,10 +103,7 @@ module _ {K : Type 0} where
   pub said_line : (a b : Saying K) (body : List ℕ) (result : Result (Unit {0}) ℕ)
       → IsTrue (is_unbroken body) → IsLineOutcome a body result b
       → Says a (line_given body result) b → Says a (line_reply body ∷ []) b
-  said_line a b body (Ok done) clean outcome says = says
-  said_line a b body (Err k) clean outcome says = absurd (false≢true
-      (sym (list_all_at (λ code. not (is_line_break code)) body k 0 outcome.0.0.high
-      (ap not outcome.0.1)) ∙ clean))
+  said_line a b body result clean outcome says = grind (arith, list_all_at)
 
   -- a part, and then a line, are one line
   pub said_joined : (a b c : Saying K) (text more : List ℕ) → Says a (part_reply text ∷ []) b

@@ -29,12 +29,11 @@ use Rattle.ascii_lines.specs.Serve.{saying_of, writing_of}
 use Rattle.ascii_lines.specs.Turns.{OnlyMoves, Converses, IsOver, Lacks, Place, TalkState, Turns}
 use Rattle.ascii_lines.specs.Turns.{is_ended, place_of, place_with, stop_of, supply_at, with_more}
 use Rattle.ascii_lines.specs.declared.conversation.Awaited.{Awaited}
-use Rattle.ascii_lines.specs.declared.conversation.Awaited.TheVariants.{Input, LineEnd, Nothing}
+use Rattle.ascii_lines.specs.declared.conversation.Awaited.TheVariants.{Input, Nothing}
 use Rattle.ascii_lines.specs.declared.conversation.Supply.{Supply}
 use Rattle.ascii_lines.specs.declared.conversation.Supply.TheVariants as supply
 use Rattle.ascii_lines.specs.declared.line_reader.LineError.{LineError}
 use Rattle.ascii_lines.specs.declared.line_writer.WriteError.{WriteError}
-use Rattle.ascii_lines.specs.declared.line_writer.WriteError.TheVariants as write
 use Rattle.ascii_lines.specs.declared.serving.Next.{Next}
 use Rattle.ascii_lines.specs.declared.serving.Next.TheVariants as next
 use Rattle.ascii_lines.specs.declared.serving.Stop.{Stop}
@@ -53,10 +52,7 @@ use Rattle.ascii_lines.proofs.WantedLemmas.{some_length}
 SentBy-after : (q : Bool) (sent more held mid before first second : List ℕ)
     → sent ++ mid ≡ before ++ first → SentBy q more held (mid ++ second)
     → SentBy q (sent ++ more) held (before ++ (first ++ second))
-SentBy-after false sent more held mid before first second one two =
-    append_two sent more held mid before first second one two
-SentBy-after true sent more held mid before first second one two =
-    (two.0, append_two sent more two.0 mid before first second one two.1)
+SentBy-after q sent more held mid before first second one two = grind (arith, append_two)
 
 -- some bytes were given, and then others written
 then_written : (a b c : OutputState) (bytes : List ℕ) (events : List Event)
@@ -75,15 +71,12 @@ then_written a b c bytes events gives writes grows aside = record {
 }
 
 pub supply_reads : (is_at_end : Bool) → supply_at is_at_end ≢ supply.Failed
-supply_reads true is = cc
-supply_reads false is = cc
+supply_reads is_at_end is = grind arith
 
 -- what is known of each supply but the failed one, and of that one
 by_supply : {P R : Type 0} (now : Supply) → (now ≢ supply.Failed → P)
     → (now ≡ supply.Failed → R) → P ⊎ ((now ≡ supply.Failed) × R)
-by_supply supply.Failed kept unread = inr (refl, unread refl)
-by_supply supply.Open kept unread = inl (kept (λ is. cc))
-by_supply supply.Ended kept unread = inl (kept (λ is. cc))
+by_supply now kept unread = grind arith
 
 -- ---- how long a server may read
 
@@ -100,20 +93,15 @@ abbrev pub reads_left : TalkState → ℕ
 reads_left talk = reads_of talk.awaited talk
 
 reads_most : (awaited : Awaited) (talk : TalkState) → reads_of awaited talk ≤ read_room talk
-reads_most (Nothing why) talk = omega arith
-reads_most _ talk = omega arith
+reads_most awaited talk = grind arith
 
 reads_all : (awaited : Awaited) (talk : TalkState) → ¬ (IsOver awaited)
     → reads_of awaited talk ≡ read_room talk
-reads_all (Nothing why) talk apart = absurd (apart (why, refl))
-reads_all _ talk apart = refl
+reads_all awaited talk apart = grind arith
 
 lacks_length : (endings : Endings) (size : ℕ) (awaited : Awaited) (start : ℕ) (held : List ℕ)
     → Lacks endings size awaited start held → length held ≤ size + 1
-lacks_length endings size (Input next.Line) start held lacks = omega (arith, lacks.0)
-lacks_length endings size (Input (next.Part n)) start held lacks = omega (arith, lacks.0, lacks.2)
-lacks_length endings size (LineEnd then) start held lacks = omega (arith, lacks.1)
-lacks_length endings size _ start held lacks = absurd lacks
+lacks_length endings size awaited start held lacks = grind arith
 
 -- why a conversation is over, or that it is not
 pub stop_is : (awaited : Awaited) (why : Stop) → stop_of awaited ≡ Some why
@@ -121,7 +109,7 @@ pub stop_is : (awaited : Awaited) (why : Stop) → stop_of awaited ≡ Some why
 stop_is awaited why is = grind arith
 
 pub stop_none : (awaited : Awaited) → stop_of awaited ≡ None → ¬ (IsOver awaited)
-stop_none awaited is over = let e : Some over.0 ≡ None = sym (ap stop_of over.1) ∙ is in cc
+stop_none awaited is over = grind arith
 
 -- what came by one read
 pub read_is : {a b : SourceState} (is_at_end : Bool) (read : List ℕ)
@@ -132,12 +120,10 @@ read_is {a} {b} false read is reads = (reads, is_some read (sym is))
 -- a flush that was done
 flushed_by : {C : Type 0} (q : Bool) (a b : Writing C) (done : Unit {0})
     → FlushesFrom q a (Ok done) b → (q ≡ false) × Flushes a.state b.state
-flushed_by false a b done flushes = (refl, flushes)
-flushed_by true a b done (is, same) = let e : Ok done ≡ Err write.Write = is in cc
+flushed_by q a b done flushes = grind arith
 
 pub then_right : {P Q : Type 0} → P ⊎ Q → ¬ P → Q
-then_right (inl first) apart = absurd (apart first)
-then_right (inr then) apart = then
+then_right first apart = grind arith
 
 module _ {H : Type 0} (answers : H → Line → List Reply → Next → H → Type 0)
     (refuses : H → LineError → List Reply → Next → H → Type 0) (old : ChannelState)

@@ -32,28 +32,11 @@ module _ (bytes text : List ℕ) where
   cr_before : IsCleanCut CrLf bytes text → (j : ℕ)
       → get_or (bytes ++ text) (length bytes + j - 1) 0 ≡ 13 → get_or text j 0 ≡ 10
       → get_or text (j - 1) 0 ≡ 13
-  cr_before clean j cr feed = elim (cases_lt 0 j) [
-    | inl some ↦
-        sym (right_at (j - 1))
-        ∙ subst (λ i. get_or (bytes ++ text) i 0 ≡ 13) (omega (arith, some)) cr
-    | inr none ↦ elim (cases_lt 0 (length bytes)) [
-      | inl full ↦
-          let at : get_or bytes (length bytes - 1) 0 ≡ 13 =
-          sym (get_or-append bytes text 0 (length bytes - 1) (omega (arith, full)))
-          ∙ subst (λ i. get_or (bytes ++ text) i 0 ≡ 13) (omega (arith, none)) cr in
-          absurd ((clean refl at).1 (subst (λ i. get_or text i 0 ≡ 10) (omega (arith, none)) feed))
-      | inr empty ↦
-          let nil : bytes ≡ [] = nil_from_length bytes (omega (arith, empty)) in
-          subst (λ i. get_or text i 0 ≡ 13) (omega arith) (rw nil at cr)
-    ]
-  ]
+  cr_before clean j cr feed = grind (arith, get_or-append-add, get_or-append, nil_from_length)
 
   stop_right : (endings : Endings) → any_text endings ≡ endings → IsCleanCut endings bytes text
       → (j : ℕ) → StopsAt endings (bytes ++ text) (length bytes + j) → StopsAt endings text j
-  stop_right Any plain clean j stop = sym (right_at j) ∙ stop
-  stop_right CrLf plain clean j stop =
-      (cr_before clean j stop.0 (sym (right_at j) ∙ stop.1), sym (right_at j) ∙ stop.1)
-  stop_right CrLfStrict plain clean j stop = cc
+  stop_right endings plain clean j stop = grind (arith, cr_before, right_at)
 
   stop_back : (endings : Endings) → any_text endings ≡ endings
       → (j : ℕ) → StopsAt endings text j → StopsAt endings (bytes ++ text) (length bytes + j)
@@ -122,10 +105,7 @@ clean_more endings bytes (x ∷ held) read clean cr_lf cr = (λ none. cc, (clean
 
 -- bytes that begin with CR
 starts_cr : (held : List ℕ) → get_or held 0 0 ≡ 13 → (held ≢ []) × (get_or held 0 0 ≢ 10)
-starts_cr held cr = (
-  λ none. absurd (omega (arith, ap (λ xs. get_or xs 0 0) none, cr)),
-  λ feed. absurd (omega (arith, feed, cr)),
-)
+starts_cr held cr = grind arith
 
 -- bytes are taken up to one at which a CR LF is not cut
 pub kept_clean : (endings : Endings) (bytes text : List ℕ) (n : ℕ) → n ≤ length text

@@ -23,8 +23,7 @@ use Rattle.ascii_lines.proofs.LineReaderLemmas.{line_has_bytes}
 use Rattle.ascii_lines.proofs.TurnsLemmas.{Turns-bytes, ends_some, turn_bytes}
 
 requests_by : (then : Next) → IsRequest then → IsRequested (awaited_by then)
-requests_by next.Close request = tt
-requests_by _ request = request
+requests_by then request = grind arith
 
 module _ {H : Type 0} (answers : H → Line → List Reply → Next → H → Type 0)
     (refuses : H → LineError → List Reply → Next → H → Type 0) (endings : Endings) (size : ℕ)
@@ -69,18 +68,7 @@ module _ {H : Type 0} (answers : H → Line → List Reply → Next → H → Ty
       go : (awaited : Awaited) (step : Step)
           → IsTurnAt answers refuses endings size now awaited a step b → IsRequested awaited
           → IsRequested b.awaited
-      go (Input asked) (took input said) t request = rw t.3 (requests_by t.0 t.4)
-      go (Input asked) (rejected error said) t request =
-          elim t.2 [ inl on ↦ rw on.0 t.3 | inr over ↦ rw over.0 tt ]
-      go (Input asked) (skipped bytes) t request = rw t.3 tt
-      go (LineEnd then) (skipped bytes) t request = elim t.3 [
-        | inl (inl ends) ↦ rw ends.0 (requests_by then request)
-        | inl (inr (inl on)) ↦ rw on.0 request
-        | inl (inr (inr (inl over))) ↦ rw over.0 tt
-        | inl (inr (inr (inr why))) ↦ rw why.1 tt
-        | inr over ↦ rw over.0 tt
-      ]
-      go _ _ t request = absurd t
+      go awaited step t request = grind (arith, requests_by)
 
   -- what is given has a byte
   some_given : (asked : Next) (what : Wanted) (bytes left : List ℕ) (input : Line)

@@ -3,7 +3,6 @@ use Rattle.std.proofs.Common.{Bool, true, false, drop, ◌≤◌, take-append-dr
 use Rattle.std.proofs.Common.{Result, Some, ◌≡◌, ◌≢◌, ℕ, ◌+◌, ◌-◌, ◌<◌, ◌^◌, List, [], length, take}
 use Rattle.std.proofs.Common.{get_or, arith, inl, inr, refl, sym, ap, subst, ◌∙◌}
 use Rattle.std.specs.Result.{IsErrAnd}
-use Rattle.std.specs.Str.{IsAscii}
 use Rattle.std.proofs.lemmas.Bool.{cases_lt}
 use Rattle.std.proofs.lemmas.List.{length-take-le, take-take, take_all, drop_all, get_or-take}
 use Rattle.std.proofs.lemmas.Option.{none-some}
@@ -20,10 +19,10 @@ use Rattle.ascii_lines.specs.Wanted.{EndsAt, Gathers, IsOne, IsRefusal, IsStrict
 use Rattle.ascii_lines.specs.Wanted.{LacksUpTo, MayBeLast, MayHave, MustRead, failures_after}
 use Rattle.ascii_lines.specs.declared.line_reader.LineError.{LineError}
 use Rattle.ascii_lines.specs.declared.line_reader.LineError.TheVariants.{Incomplete, LoneBreak}
-use Rattle.ascii_lines.specs.declared.line_reader.LineError.TheVariants.{Read, TooFar, TooLong}
+use Rattle.ascii_lines.specs.declared.line_reader.LineError.TheVariants.{Read, TooFar}
 use Rattle.ascii_lines.specs.declared.wanted.Found.{Found}
 use Rattle.ascii_lines.specs.declared.wanted.Wanted.{Wanted}
-use Rattle.ascii_lines.specs.declared.wanted.Wanted.TheVariants.{Line, Bytes, Part}
+use Rattle.ascii_lines.specs.declared.wanted.Wanted.TheVariants.{Line, Part}
 use Rattle.ascii_lines.proofs.WantedLemmas.{ends_front, ends_whole, may_front, must_reads, rejects}
 use Rattle.ascii_lines.proofs.WantedLemmas.{searched_front, searched_lacks, searched_none}
 use Rattle.ascii_lines.proofs.WantedLemmas.{searched_whole, usable_least, some_length}
@@ -33,9 +32,7 @@ use Rattle.ascii_lines.proofs.WantedLemmas.{searched_whole, usable_least, some_l
 -- before its end, what is wanted is not among the bytes
 free_by : (wanted : Wanted) (buffer : WindowState) (n : ℕ) (is_last : Bool)
     → StopsBy wanted buffer n is_last → IsSearched wanted buffer.held (n - 1)
-free_by (Part count) buffer n is_last stops = tt
-free_by _ buffer n true stops = λ k low. stops.2 k (omega (arith, low))
-free_by _ buffer n false stops = stops.free
+free_by wanted buffer n is_last stops = grind arith
 
 module _ (wanted : Wanted) (start : ℕ) (buffer : WindowState) (n : ℕ)
     (is_last : Bool) (finds : FindsEnd wanted buffer n is_last) where
@@ -66,15 +63,7 @@ module _ (wanted : Wanted) (start : ℕ) (buffer : WindowState) (n : ℕ)
       go : (wanted : Wanted) (is_last : Bool) → ¬ (MayBeLast wanted is_last)
           → MayHave wanted bytes → StopsBy wanted buffer n is_last
           → IsCutOff wanted buffer.held buffer.is_at_end × (n ≡ length buffer.held)
-      go (Part count) true not_last may stops = (
-        (
-          stops.1,
-          subst IsAscii (take_all n buffer.held (omega (arith, stops.0))) may,
-          omega (arith, stops.0, stops.2),
-        ),
-        stops.0,
-      )
-      go _ _ not_last may stops = absurd (not_last tt)
+      go wanted is_last not_last may stops = grind (arith, take_all)
 
   -- the byte at `i` is CR, the last, and not after a CR
   abbrev LastCr : ℕ → Type 0
@@ -88,11 +77,7 @@ module _ (wanted : Wanted) (start : ℕ) (buffer : WindowState) (n : ℕ)
       → FindsLoneBreak CrLfStrict bytes (Some i)
       → IsLoneBreak wanted buffer.size buffer.held buffer.is_at_end i n
   lone i free ends (strict, shape) =
-      let low : i < n = elim shape [
-        | inl feed ↦ omega (arith, feed.0, long)
-        | inr (inl cr) ↦ omega (arith, cr.0, long)
-        | inr (inr last) ↦ omega (arith, last.0, long)
-      ] in
+      let low : i < n = omega (arith, long, shape) in
       record {
         fits = finds.fits;
         inside = finds.within;
@@ -184,10 +169,7 @@ module _ (wanted : Wanted) (start : ℕ) (buffer : WindowState) (n : ℕ)
   one : (wanted : Wanted) (is_last : Bool) → StopsBy wanted buffer n is_last
       → IsSearched wanted buffer.held (n - 1) → FindsFault wanted bytes None
       → MayBeLast wanted is_last → bytes ≢ [] → IsOne wanted bytes
-  one (Part count) true stops free whole last some = absurd last
-  one (Part count) false stops free whole last some = long ∙ stops
-  one (Line endings) is_last stops free whole last some = line endings free whole some
-  one (Bytes endings) is_last stops free whole last some = line endings free whole some
+  one wanted is_last stops free whole last some = grind (arith, line, long)
 
   -- it is given
   pub end_found : (place : ℕ) → IsEndOf wanted start bytes is_last (Ok place)
@@ -204,8 +186,7 @@ module _ (wanted : Wanted) (start : ℕ) (buffer : WindowState) (n : ℕ)
 -- a result that is an error of another call
 pub from_err : {T E : Type 0} (result : Result T E) (error : E) (P : Result T E → Type 0)
     → IsErrAnd result (λ e. e ≡ error) → P (Err error) → P result
-from_err (Ok _) error P is holds = absurd is
-from_err (Err e) error P is holds = rw is holds
+from_err result error P is holds = grind arith
 
 module _ (wanted : Wanted) (start : ℕ) (ended : Bool) (buffer : WindowState) where
   abbrev window : WindowState
@@ -218,9 +199,7 @@ module _ (wanted : Wanted) (start : ℕ) (ended : Bool) (buffer : WindowState) w
     where
       go : (wanted : Wanted) (error : LineError) → IsUnfit wanted start buffer.size error
           → Looks wanted start window (Err error)
-      go (Part n) (TooLong place) unfit = (unfit, λ is. cc)
-      go (Part n) TooFar unfit = (unfit, λ is. cc)
-      go _ _ unfit = absurd unfit
+      go wanted error unfit = grind arith
 
   module _ (part : List ℕ) (usable : IsUsable wanted buffer part) where
     -- what was searched is among the bytes that may be in what is wanted
@@ -264,12 +243,10 @@ module _ (wanted : Wanted) (start : ℕ) (ended : Bool) (buffer : WindowState) w
 
 -- no read has failed, if the error is not that of one
 pub counts_none : (n : ℕ) (error : LineError) → error ≢ Read → failures_after n error ≡ n
-counts_none n Read other = absurd (other refl)
-counts_none n _ other = refl
+counts_none n error other = grind arith
 
 pub on_error : {T E : Type 0} (result : Result T E) {P : Type 0} → P → OnErr result P
-on_error (Ok _) holds = tt
-on_error (Err _) holds = holds
+on_error result holds = grind arith
 
 -- what was taken
 pub takes_off : (wanted : Wanted) (start : ℕ) (old buffer new : WindowState) (a b : SourceState)

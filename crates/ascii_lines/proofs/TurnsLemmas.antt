@@ -3,7 +3,6 @@ use Rattle.std.proofs.Common.{◌≡◌, ◌≢◌, ◌⊎◌, ◌∙◌, ℕ, �
 use Rattle.std.proofs.Common.{◌++◌, Bool, Err, None, Some, ap, append_assoc, append-nil, arith}
 use Rattle.std.proofs.Common.{drop, false, inl, inr, length, length-append, refl, sym, take, true}
 use Rattle.std.proofs.Common.{subst}
-use Rattle.std.proofs.lemmas.Bool.{false≢true}
 use Rattle.std.proofs.lemmas.List.{length-take-le, nil_from_length, take-append-drop, drop_all}
 use Rattle.std.proofs.lemmas.List.{take_all, length-drop}
 use Rattle.std.proofs.lemmas.Str.Ascii.{IsAscii-nil}
@@ -22,7 +21,7 @@ use Rattle.ascii_lines.specs.Turns.{IsSearchedFor, IsSound, IsTurn, IsTurnAt, La
 use Rattle.ascii_lines.specs.Turns.{SkipTurn, SkipsIn, SkipsTo, Stops, TalkState, TurnOutcome}
 use Rattle.ascii_lines.specs.Turns.{Turns, Wants, awaited_by, is_ended, left_of, place_at, place_of}
 use Rattle.ascii_lines.specs.Turns.{place_with, supply_at, with_more}
-use Rattle.ascii_lines.specs.Wanted.{EndsAt, MayBeLast, MustRead, Rejects, IsLoneBreak}
+use Rattle.ascii_lines.specs.Wanted.{EndsAt, MayBeLast, MustRead, Rejects}
 use Rattle.ascii_lines.specs.declared.conversation.Awaited.{Awaited}
 use Rattle.ascii_lines.specs.declared.conversation.Awaited.TheVariants.{Input, LineEnd, Nothing}
 use Rattle.ascii_lines.specs.declared.conversation.Supply.{Supply}
@@ -48,15 +47,13 @@ said-append (rejected error said ∷ xs) ys = simp (said-append xs ys, append_as
 said-append (skipped bytes ∷ xs) ys = said-append xs ys
 
 pub supply_ended : (is_at_end : Bool) → is_ended (supply_at is_at_end) ≡ is_at_end
-supply_ended true = refl
-supply_ended false = refl
+supply_ended is_at_end = grind arith
 
 -- ---- the bytes of steps
 
 input_bytes : (what : Wanted) (bytes : List ℕ) (input : Line) → IsInputOf what bytes input
     → line_text input ≡ bytes
-input_bytes (wanted.Part n) bytes input is = rw (is.1, append-nil) is.0
-input_bytes _ bytes input is = is.1
+input_bytes what bytes input is = grind (arith, append-nil)
 
 module _ {H : Type 0} (answers : H → Line → List Reply → Next → H → Type 0)
     (refuses : H → LineError → List Reply → Next → H → Type 0) (endings : Endings) (size : ℕ)
@@ -103,28 +100,10 @@ not_failed is = cc
 rejects_any : (what : Wanted) (start size : ℕ) (text : List ℕ) (is_at_end : Bool)
     (error : LineError) → Rejects what start size text false error
     → Rejects what start size text is_at_end error
-rejects_any what start size text is_at_end (fault.LoneBreak place)
-    (strict, (i, n, is, lone)) =
-    let shown : IsLoneBreak what size text is_at_end i n = record {
-      fits = lone.fits;
-      inside = lone.inside;
-      may = lone.may;
-      first = lone.first;
-      lone = elim lone.lone [
-        | inl feed ↦ inl feed
-        | inr (inl cr) ↦ inr (inl cr)
-        | inr (inr last) ↦ absurd (false≢true last.3)
-      ];
-    } in
-    (strict, (i, n, is, shown))
-rejects_any (wanted.Part count) start size text is_at_end (fault.Incomplete n) (is, cut) =
-    absurd (false≢true cut.0)
-rejects_any _ start size text is_at_end (fault.Incomplete n) (is, cut) = absurd cut
-rejects_any what start size text is_at_end _ why = why
+rejects_any what start size text is_at_end error why = grind arith
 
 no_end_before : (others : List ℕ) → at_end_before others false ≡ false
-no_end_before [] = refl
-no_end_before (b ∷ others) = refl
+no_end_before others = grind arith
 
 faults_more : (now : Supply) (what : Wanted) (start size : ℕ) (text more : List ℕ)
     (error : LineError) → Faults supply.Open what start size text error
@@ -143,17 +122,7 @@ faults_more now what start size text more error (seen, others, is, why, read, so
 -- no bytes show an error in place of a line, after which a conversation goes on
 nothing_shown : (endings : Endings) (start size : ℕ) (is_at_end : Bool) (error : LineError)
     → Rejects (wanted.Line endings) start size [] is_at_end error → IsFinal error
-nothing_shown endings start size is_at_end (fault.NotAscii place) (i, is, other) =
-    absurd (omega (arith, other.1.inside))
-nothing_shown endings start size is_at_end (fault.LoneBreak place) (strict, (i, n, is, lone)) =
-    absurd (elim lone.lone [
-      | inl feed ↦ omega (arith, feed.0, lone.inside)
-      | inr (inl cr) ↦ omega (arith, cr.0, lone.inside)
-      | inr (inr last) ↦ omega (arith, last.0, lone.inside)
-    ])
-nothing_shown endings start size is_at_end (fault.TooLong place) (is, over) =
-    absurd (omega (arith, over.0))
-nothing_shown endings start size is_at_end _ why = tt
+nothing_shown endings start size is_at_end error why = grind arith
 
 why_more : (endings : Endings) (most start : ℕ) (bytes held more : List ℕ) (error : LineError)
     → error ≢ fault.Read → WhyNotSkipped endings most start bytes held error
@@ -231,9 +200,7 @@ module _ {H : Type 0} (answers : H → Line → List Reply → Next → H → Ty
 
       stops : (asked : Next) (why : Stop) → Stops supply.Open asked a.text why
           → Stops now asked (a.text ++ more) why
-      stops asked stop.Writer t = tt
-      stops asked stop.EndOfInput t = absurd (not_ended t.1)
-      stops asked _ t = absurd t
+      stops asked why t = grind arith
 
       go : (awaited : Awaited) (step : Step)
           → IsTurnAt answers refuses endings size supply.Open awaited a step b
@@ -281,17 +248,14 @@ module _ {H : Type 0} (answers : H → Line → List Reply → Next → H → Ty
 
 sound_by : (now : Supply) (then : Next) (text : List ℕ) → IsRequest then
     → IsSound now (awaited_by then) text
-sound_by now (next.Part n) text request = request
-sound_by now _ text request = tt
+sound_by now then text request = grind arith
 
 sound_request : (now : Supply) (awaited : Awaited) (text : List ℕ) → IsSound now awaited text
     → IsRequested awaited
-sound_request now (Nothing why) text sound = tt
-sound_request now _ text sound = sound
+sound_request now awaited text sound = grind arith
 
 left_by : (then : Next) (text : List ℕ) → left_of (awaited_by then) text ≤ 2 * length text + 2
-left_by next.Close text = omega arith
-left_by _ text = omega arith
+left_by then text = grind arith
 
 -- a conversation is over for one reason
 pub over_by : {awaited : Awaited} (a b : Stop) → awaited ≡ Nothing a → awaited ≡ Nothing b → a ≡ b
@@ -488,10 +452,7 @@ module _ {H K : Type 0} (answers : H → Line → List Reply → Next → H → 
 -- what is returned has a byte
 pub ends_some : (endings : Endings) (asked : Next) (what : Wanted) (text : List ℕ) (n : ℕ)
     → Wants endings asked what → IsRequested (Input asked) → EndsAt what text n → 0 < n
-ends_some endings next.Line what text n wants some ends = (rw wants at ends).some
-ends_some endings (next.Part count) what text n wants some ends =
-    omega (arith, rw wants at ends, some)
-ends_some endings next.Close what text n wants some ends = absurd wants
+ends_some endings asked what text n wants some ends = grind arith
 
 module _ {H K : Type 0} (answers : H → Line → List Reply → Next → H → Type 0)
     (refuses : H → LineError → List Reply → Next → H → Type 0) (endings : Endings)

@@ -1,7 +1,6 @@
 -- Whether what is wanted is among some bytes, and why it is not given.
 use Rattle.std.proofs.Common.{◌≡◌, ◌≢◌, ℕ, ◌+◌, ◌<◌, ◌≤◌, List, Bool, length, take, arith, get_or}
 use Rattle.std.proofs.Common.{inl, inr, subst, sym, [], ◌∷◌, refl, ◌-◌}
-use Rattle.std.proofs.lemmas.Bool.{cases_lt}
 use Rattle.std.proofs.lemmas.List.{get_or-take}
 use Rattle.std.proofs.lemmas.Str.{IsAscii-take}
 use Rattle.std.specs.Str.{IsAscii}
@@ -23,8 +22,7 @@ some_length (b ∷ text) some = omega arith
 
 pub may_front : (wanted : Wanted) (held : List ℕ) (n : ℕ) → MayHave wanted held
     → MayHave wanted (take n held)
-may_front (Bytes endings) held n may = tt
-may_front _ held n may = IsAscii-take held n may
+may_front wanted held n may = grind (arith, IsAscii-take)
 
 module _ (held : List ℕ) (m n : ℕ) (low : n ≤ m) where
   at_front : (k : ℕ) → k < n → get_or (take m held) k 0 ≡ get_or held k 0
@@ -63,21 +61,16 @@ module _ (held : List ℕ) (m n : ℕ) (low : n ≤ m) where
 
 pub searched_lacks : (wanted : Wanted) (text : List ℕ) (n : ℕ) → LacksUpTo wanted text n
     → IsSearched wanted text n
-searched_lacks (Part count) text n lacks = tt
-searched_lacks _ text n lacks = lacks
+searched_lacks wanted text n lacks = grind arith
 
 pub searched_none : (wanted : Wanted) (text : List ℕ) → IsSearched wanted text 0
-searched_none (Part count) text = tt
-searched_none _ text = λ k low. absurd (omega (arith, low))
+searched_none wanted text = grind arith
 
 -- ---- the bytes that may be in what is wanted
 
 late : (held : List ℕ) (n i : ℕ) → IsAscii (take n held) → FirstOther held 0 (length held) i
     → n ≤ i
-late held n i ascii first = elim (cases_lt i n) [
-  | inl early ↦ absurd (first.other (subst (λ x. x < 128) (get_or-take n held i 0 early) (ascii i)))
-  | inr after ↦ after
-]
+late held n i ascii first = grind (arith, get_or-take)
 
 -- bytes that may be in it come before one that may not
 barred_late : (wanted : Wanted) (held : List ℕ) (n i : ℕ) → MayHave wanted (take n held)
@@ -90,11 +83,7 @@ module _ (wanted : Wanted) (buffer : WindowState) (part : List ℕ)
   -- if bytes fit and may be in it, they are among them
   pub usable_least : (n : ℕ) → n ≤ length buffer.held → n ≤ buffer.size
       → MayHave wanted (take n buffer.held) → n ≤ length part
-  usable_least n within fits may = elim usable.most [
-    | inl all ↦ omega (arith, within, all)
-    | inr (inl full) ↦ omega (arith, fits, full)
-    | inr (inr barred) ↦ barred_late wanted buffer.held n (length part) may barred
-  ]
+  usable_least n within fits may = grind (arith, barred_late)
 
 -- ---- why it is not given
 
@@ -102,10 +91,7 @@ module _ (wanted : Wanted) (buffer : WindowState) (part : List ℕ)
 pub must_reads : (wanted : Wanted) (start size : ℕ) (held : List ℕ)
     → MustRead wanted start size held
     → (length held ≤ size) × MayHave wanted held × LacksUpTo wanted held (length held)
-must_reads (Line endings) start size held must = must
-must_reads (Bytes endings) start size held must = (must.0, tt, must.1)
-must_reads (Part count) start size held must =
-    (omega (arith, must.0, must.2), must.1, must.0)
+must_reads wanted start size held must = grind arith
 
 module _ (wanted : Wanted) (start : ℕ) (buffer : WindowState) (part : List ℕ)
     (usable : IsUsable wanted buffer part) (lacks : LacksUpTo wanted part (length part)) where
@@ -124,8 +110,7 @@ module _ (wanted : Wanted) (start : ℕ) (buffer : WindowState) (part : List ℕ
       by : (wanted : Wanted) → LacksUpTo wanted buffer.held (length part)
           → IsBarred wanted buffer.held (length part)
           → IsOtherIn wanted buffer.size buffer.held (length part)
-      by (Bytes endings) here first = absurd first
-      by _ here first = (omega (arith, other, usable.fits), first, here)
+      by wanted here first = grind (arith, other, usable.fits)
 
   -- it does not fit, or has a byte that it may not have
   pub rejects : length part < length buffer.held → (is_at_end : Bool) (error : LineError)
@@ -136,8 +121,7 @@ module _ (wanted : Wanted) (start : ℕ) (buffer : WindowState) (part : List ℕ
     where
       over : (wanted : Wanted) → MayHave wanted (take (length part) buffer.held)
           → LacksUpTo wanted buffer.held (length part) → IsOver wanted buffer.size buffer.held
-      over (Part count) may here = omega (arith, here, full)
-      over _ may here = rw (← full) (less, may, here)
+      over wanted may here = grind arith
   rejects less is_at_end (error.NotAscii place) (other, is) = (length part, is, barred less other)
   rejects less is_at_end error.TooFar (other, far) = beyond wanted here
     where

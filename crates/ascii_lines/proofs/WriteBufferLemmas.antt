@@ -61,18 +61,12 @@ front_of a b bytes (sent, others, sends, is) = record {
 
 whole_by : (q : Bool) (a b : OutputState) (bytes : List ℕ) → AppendsBy false q a b bytes
     → q ≡ false → Passes a b bytes × (b.failures ≡ a.failures)
-whole_by false a b bytes (sent, sends, is, same) none = (
-  record { sent = sent; took = sends.0; told = TellsSent-write sent sends.1; all = is },
-  same,
-)
-whole_by true a b bytes appends none = absurd (false≢true (sym none))
+whole_by q a b bytes appends none = grind (arith, TellsSent-write)
 
 broken_by : (q : Bool) (a b : OutputState) (bytes : List ℕ) → AppendsBy false q a b bytes
     → a.failures < 2 ^ 64 - 1 → q ≡ true
     → PassesPrefix a b bytes × (b.failures ≡ one_more a.failures)
-broken_by false a b bytes appends low some = absurd (false≢true some)
-broken_by true a b bytes (front, count) low some =
-    (front_of a b bytes front, omega (arith, low, count))
+broken_by q a b bytes appends low some = grind (arith, front_of)
 
 -- bytes were appended to a buffer through which no write had failed
 pub puts : {a b : OutputState} (bytes : List ℕ) → a.buffer.is_broken ≡ false
