@@ -1,8 +1,7 @@
 -- A conversation as its handler sees it.
-use Rattle.std.proofs.Common.{◌≡◌, ◌∙◌, ℕ, List, [], ◌∷◌, ◌++◌, None, Option, Some, append-nil, ap}
-use Rattle.std.proofs.Common.{arith, inl, inr, length, length-append, true, refl, subst, sym}
-use Rattle.std.proofs.lemmas.Grind.{flat_map-append}
-use Rattle.std.specs.Io.KnownBytes.{Appends, Consumes, IsAtEnd}
+use Rattle.std.proofs.Common.{◌≡◌, ◌∙◌, ℕ, List, [], ◌∷◌, ◌++◌, Option, Some, append-nil, ap, arith}
+use Rattle.std.proofs.Common.{inl, inr, length, length-append, true, refl, subst, sym}
+use Rattle.std.specs.Io.KnownBytes.{Consumes, IsAtEnd}
 use Rattle.std.specs.List.{flat_map}
 use Rattle.std.specs.Prelude.{IfSome}
 use Rattle.ascii.proofs.LinesLemmas.{LinesEndedBy-cons, LinesEndedBy-nil}
@@ -11,11 +10,9 @@ use Rattle.ascii.specs.declared.iter.spans.Ending.{Ending}
 use Rattle.ascii.specs.declared.iter.spans.Endings.{Endings}
 use Rattle.ascii_devices.specs.Devices.{received_of}
 use Rattle.ascii_lines.specs.Exchanges.{IsReplier, Runs, inputs_of, said_in}
-use Rattle.ascii_lines.specs.Replies.{IsInputOf, Reply, Step, rejected, reply_bytes, reply_text}
-use Rattle.ascii_lines.specs.Replies.{skipped, took}
+use Rattle.ascii_lines.specs.Replies.{Reply, Step, rejected, reply_bytes, reply_text, skipped, took}
 use Rattle.ascii_lines.specs.Serve.{ChannelState, RepliesToAll, Serves, Talk, first_place}
-use Rattle.ascii_lines.specs.Turns.{Completes, IsTurnAt, Place, Stops, Turns, awaited_by, is_ended}
-use Rattle.ascii_lines.specs.Turns.{place_of}
+use Rattle.ascii_lines.specs.Turns.{IsTurnAt, Place, Stops, Turns, awaited_by, is_ended, place_of}
 use Rattle.ascii_lines.specs.declared.conversation.Awaited.{Awaited}
 use Rattle.ascii_lines.specs.declared.conversation.Awaited.TheVariants.{Input, LineEnd, Nothing}
 use Rattle.ascii_lines.specs.declared.conversation.Supply.{Supply}
@@ -25,10 +22,9 @@ use Rattle.ascii_lines.specs.declared.serving.Next.{Next}
 use Rattle.ascii_lines.specs.declared.serving.Next.TheVariants as next
 use Rattle.ascii_lines.specs.declared.serving.Stop.{Stop}
 use Rattle.ascii_lines.specs.declared.serving.Stop.TheVariants as stop
-use Rattle.ascii_lines.specs.declared.wanted.Wanted.TheVariants as wanted
 use Rattle.ascii.proofs.LinesByLemmas.{MayFollow-ended}
 use Rattle.ascii_lines.proofs.LineReaderLemmas.{line_bytes}
-use Rattle.ascii_lines.proofs.TurnsLemmas.{over_ends}
+use Rattle.ascii_lines.proofs.TurnsLemmas.{over_ends, over_by}
 
 module _ {H : Type 0} (answers : H → Line → List Reply → Next → H → Type 0)
     (refuses : H → LineError → List Reply → Next → H → Type 0) (endings : Endings) (size : ℕ)
@@ -47,14 +43,9 @@ module _ {H : Type 0} (answers : H → Line → List Reply → Next → H → Ty
           → Runs answers refuses a.handler (step ∷ steps) b.handler
       go (Input asked) (took input said) t runs = (t.0, mid.handler, t.8, runs)
       go (Input asked) (rejected error said) t runs = (t.0, mid.handler, t.5, runs)
-      go (Input asked) (skipped bytes) t runs =
-          subst (λ h. Runs answers refuses h steps b.handler) (ap (λ (p : Place H). p.handler) t.3)
-          runs
-      go (LineEnd then) (skipped bytes) t runs =
-          subst (λ h. Runs answers refuses h steps b.handler) t.0 runs
-      go (LineEnd then) (took input said) t runs = absurd t
-      go (LineEnd then) (rejected error said) t runs = absurd t
-      go (Nothing why) step t runs = absurd t
+      go (Input asked) (skipped bytes) t runs = rw t.3 at runs
+      go (LineEnd then) (skipped bytes) t runs = rw t.0 at runs
+      go _ _ t runs = absurd t
 
 module _ {H : Type 0} (answers : H → Line → List Reply → Next → H → Type 0)
     (refuses : H → LineError → List Reply → Next → H → Type 0) where
@@ -72,13 +63,7 @@ module _ {H : Type 0} (answers : H → Line → List Reply → Next → H → Ty
 -- the bytes that a source gave up to its end are all that it had
 all_given : (old left : Option (List ℕ)) (given : List ℕ) (P : List ℕ → Type 0)
     → Consumes old left given → IsAtEnd left → P given → IfSome old P
-all_given None left given P gave ends holds = tt
-all_given (Some xs) None given P gave ends holds = absurd gave
-all_given (Some xs) (Some ys) given P gave ends holds =
-    subst P (sym (gave ∙ (ap (λ zs. given ++ zs) ends ∙ append-nil given))) holds
-
-stop_same : (a b : Stop) → Nothing a ≡ Nothing b → a ≡ b
-stop_same a b is = cc
+all_given old left given P gave ends holds = grind (arith, append-nil)
 
 -- there are no lines in no bytes
 no_lines : (endings : Endings) (lines : List Line) → LinesEndedBy endings [] lines → lines ≡ []
@@ -103,19 +88,16 @@ module _ {H : Type 0} (answers : H → Line → List Reply → Next → H → Ty
   takes_lines : (a b : Place H) (steps : List Step) → a.awaited ≡ Input next.Line
       → b.awaited ≡ Nothing stop.EndOfInput → Turns answers refuses endings size now a steps b
       → TakesLines a.text steps
-  takes_lines a b [] line ends same = absurd (let e : Nothing stop.EndOfInput ≡ Input next.Line =
-      sym ends ∙ (ap (λ (p : Place H). p.awaited) same ∙ line) in cc)
+  takes_lines a b [] line ends same = let e : Nothing stop.EndOfInput ≡ Input next.Line =
+      sym ends ∙ (ap (λ (p : Place H). p.awaited) same ∙ line) in cc
   takes_lines a b (step ∷ steps) line ends (mid, turn, turns) = go step
       (λ is. takes_lines mid b steps is ends turns)
       (subst (λ w. IsTurnAt answers refuses endings size now w a step mid) line turn)
     where
       over : (why : Stop) → mid.awaited ≡ Nothing why → (why ≡ stop.EndOfInput) × (steps ≡ [])
       over why is =
-          let last = over_ends answers refuses endings size now mid b steps why is turns in (
-            stop_same why stop.EndOfInput
-                (sym is ∙ (sym (ap (λ (p : Place H). p.awaited) last.1) ∙ ends)),
-            last.0,
-          )
+          let last = over_ends answers refuses endings size now mid b steps why is turns in
+          (over_by why stop.EndOfInput is (rw last.1 at ends), last.0)
 
       go : (step : Step) → (mid.awaited ≡ Input next.Line → TakesLines mid.text steps)
           → IsTurnAt answers refuses endings size now (Input next.Line) a step mid
@@ -123,59 +105,44 @@ module _ {H : Type 0} (answers : H → Line → List Reply → Next → H → Ty
       go (took input said) then t =
           let by = replier.0 a.handler input said t.0 mid.handler t.8 in
           let others = then (t.3 ∙ ap awaited_by by.1) in
-          let is : IsInputOf (wanted.Line endings) t.2 input =
-          subst (λ w. IsInputOf w t.2 input) t.5 t.6 in
-          let completes : Completes now (wanted.Line endings) t.2 mid.text =
-          subst (λ w. Completes now w t.2 mid.text) t.5 t.7 in
+          let is = rw t.5 at t.6 in
+          let completes = rw t.5 at t.7 in
           record {
-            are = subst (λ text. LinesEndedBy endings text (input ∷ inputs_of steps))
-                (ap (λ xs. xs ++ mid.text) is.1 ∙ sym t.9)
+            are = rw (t.9, ← is.1)
                 (LinesEndedBy-cons endings input mid.text (inputs_of steps)
                 (is.0.bodies 0 input (omega arith)) (is.0.endings 0 input (omega arith))
                 (λ none. elim completes [
                   | inl whole ↦ absurd (is.2 whole none)
-                  | inr last ↦ no_lines endings (inputs_of steps)
-                      (subst (λ text. LinesEndedBy endings text (inputs_of steps)) last.1
-                      others.are)
+                  | inr last ↦ no_lines endings (inputs_of steps) (rw last.1 at others.are)
                 ]) others.are);
-            says = λ ending. flat_map-append (reply_text ending) said (said_in steps)
-                ∙ (ap (λ rs. reply_bytes ending rs ++ reply_bytes ending (said_in steps)) by.0
-                ∙ (ap (λ xs. xs ++ reply_bytes ending (said_in steps))
-                (append-nil (reply_text ending (reply input)))
-                ∙ ap (λ xs. reply_text ending (reply input) ++ xs) (others.says ending)));
+            says = λ ending. rw (by.0, others.says ending);
           }
       go (rejected error said) then t =
           let by = replier.1 a.handler error said t.0 mid.handler t.5 in
           elim t.2 [
             | inl on ↦ absurd (on.3 by)
-            | inr stops ↦ absurd (let e : stop.Reader error ≡ stop.EndOfInput =
-                (over (stop.Reader error) stops.0).0 in cc)
+            | inr stops ↦ let e : stop.Reader error ≡ stop.EndOfInput =
+                (over (stop.Reader error) stops.0).0 in cc
           ]
       go (skipped bytes) then t = ended t.0 t.2 (over t.0 (ap (λ (p : Place H). p.awaited) t.3))
         where
           ended : (why : Stop) → Stops now next.Line a.text why
               → (why ≡ stop.EndOfInput) × (steps ≡ []) → TakesLines a.text (skipped bytes ∷ steps)
-          ended stop.EndOfInput stops last =
-              subst (λ ss. TakesLines a.text (skipped bytes ∷ ss)) (sym last.1)
-              (subst (λ text. TakesLines text (skipped bytes ∷ [])) (sym stops.2)
-              (record { are = LinesEndedBy-nil endings; says = λ _. refl }))
-          ended stop.Writer stops last =
-              absurd (let e : stop.Writer ≡ stop.EndOfInput = last.0 in cc)
-          ended stop.Closed stops last = absurd stops
-          ended (stop.Reader error) stops last = absurd stops
+          ended why stops last = grind (arith, LinesEndedBy-nil)
 
 module _ {H : Type 0} (answers : H → Line → List Reply → Next → H → Type 0)
     (refuses : H → LineError → List Reply → Next → H → Type 0) (reply : Line → Reply)
     (replier : IsReplier answers refuses reply) where
-  served : (old new : ChannelState) (handler last : H)
-      → Serves answers refuses old handler stop.EndOfInput new last → RepliesToAll reply old new
-  served old new handler last serves =
+  -- after a conversation that ended with the input, all lines were replied to
+  pub replied_to_all : (old new : ChannelState) (handler last : H) (why : Stop)
+      → Serves answers refuses old handler why new last → why ≡ stop.EndOfInput
+      → RepliesToAll reply old new
+  replied_to_all old new handler last why served is =
+      let serves = rw is at served in
       let talk = serves.talk in
       let used = serves.used refl in
-      let over : new.talk.awaited ≡ Nothing stop.EndOfInput = elim serves.stops [
-        | inl writer ↦ absurd (let e : stop.EndOfInput ≡ stop.Writer = writer in cc)
-        | inr over ↦ over
-      ] in
+      let over : new.talk.awaited ≡ Nothing stop.EndOfInput =
+      elim serves.stops [ inl writer ↦ cc | inr over ↦ over ] in
       let all = takes_lines answers refuses reply replier old.talk.endings old.talk.size talk.now
       (first_place old handler (received_of talk.events)) (place_of new.talk last) talk.steps refl
       over
@@ -183,24 +150,15 @@ module _ {H : Type 0} (answers : H → Line → List Reply → Next → H → Ty
       let seen : new.talk.is_at_end ≡ true = sym talk.ended ∙ ap is_ended used.0 in
       let reads : new.output.aside.failures ≡ old.output.aside.failures = elim talk.reads [
         | inl same ↦ same
-        | inr failed ↦ absurd (let e : supply.Ended ≡ supply.Failed = sym used.0 ∙ failed.0 in cc)
+        | inr failed ↦ let e : supply.Ended ≡ supply.Failed = sym used.0 ∙ failed.0 in cc
       ] in
       record {
         lines = inputs_of talk.steps;
         input = all_given old.output.aside.bytes talk.gave.rest (received_of talk.events)
             (λ rest. LinesEndedBy old.talk.endings (old.talk.held ++ rest) (inputs_of talk.steps))
             talk.gave.gave (subst IsAtEnd (talk.gave.left reads) (serves.end seen)) all.are;
-        output = subst (Appends old.output.taken new.output.taken)
-            (serves.wrote.0 ∙ ap (λ xs. old.output.buffer.bytes ++ xs) (all.says old.ending))
-            talk.took;
+        output = rw (serves.wrote.0, all.says old.ending) at talk.took;
       }
-
-  -- after a conversation that ended with the input, all lines were replied to
-  pub replied_to_all : (old new : ChannelState) (handler last : H) (why : Stop)
-      → Serves answers refuses old handler why new last → why ≡ stop.EndOfInput
-      → RepliesToAll reply old new
-  replied_to_all old new handler last why serves is = served old new handler last
-      (subst (λ w. Serves answers refuses old handler w new last) is serves)
 
 -- the same of a channel over memory
 pub replied_in_memory : (reply : Line → Reply) (old new : ChannelState) (text written : List ℕ)
@@ -211,14 +169,6 @@ pub replied_in_memory : (reply : Line → Reply) (old new : ChannelState) (text 
     × (written ≡ flat_map (λ line. reply_text old.ending (reply line)) lines)
 replied_in_memory reply old new text written all none empty rest before after = (
   all.lines,
-  subst (λ held. LinesEndedBy old.talk.endings (held ++ text) all.lines) none
-      (subst (λ bytes. IfSome bytes (λ rest. LinesEndedBy old.talk.endings
-      (old.talk.held ++ rest) all.lines)) rest all.input),
-  subst
-      (λ bytes. written ≡ bytes
-      ++ flat_map (λ line. reply_text old.ending (reply line)) all.lines) empty
-      (subst (λ taken. Appends taken (Some written) (old.output.buffer.bytes
-      ++ flat_map (λ line. reply_text old.ending (reply line)) all.lines)) before
-      (subst (λ taken. Appends old.output.taken taken (old.output.buffer.bytes
-      ++ flat_map (λ line. reply_text old.ending (reply line)) all.lines)) after all.output)),
+  rw (rest, none) at all.input,
+  rw (before, after, empty) at all.output,
 )

@@ -43,15 +43,10 @@ some_reads (r ∷ reads) read none = cc
 reaches_read : (was mid is : Bool) (reads : List (List ℕ)) (read : List ℕ)
     → ReachesEnd was reads mid → mid ≡ false → (is ≡ true → read ≡ [])
     → ReachesEnd was (reads ++ read ∷ []) is
-reaches_read true mid is reads read (none, seen) more last =
-    absurd (false≢true (sym more ∙ seen))
-reaches_read false mid true reads read so_far more last =
-    (reads, ap (λ r. reads ++ r ∷ []) (last refl))
-reaches_read false mid false reads read so_far more last = tt
+reaches_read was mid is reads read so_far more last = grind arith
 
 pub no_reads_reach : (is_at_end : Bool) → ReachesEnd is_at_end [] is_at_end
-no_reads_reach true = (refl, refl)
-no_reads_reach false = tt
+no_reads_reach is_at_end = grind arith
 
 -- what a reader remembers of a read tells whether it returned bytes
 pub is_none : (read : List ℕ) → (length read == 0) ≡ true → read ≡ []
@@ -59,8 +54,7 @@ is_none [] zero = refl
 is_none (b ∷ read) zero = absurd (omega (arith, eqb-true (length (b ∷ read)) 0 zero))
 
 pub is_some : (read : List ℕ) → (length read == 0) ≡ false → read ≢ []
-is_some read other none =
-    false≢true (sym other ∙ ap (λ (xs : List ℕ). length xs == 0) none)
+is_some read other = grind arith
 
 pub Gathers-nil : (Must : List ℕ → Type 0) (held : List ℕ) (is_at_end : Bool) (a : SourceState)
     → KnowsEnd is_at_end a.rest → Gathers Must held is_at_end is_at_end a a held
@@ -91,14 +85,10 @@ module _ (Must : List ℕ → Type 0) (held : List ℕ) (was mid is : Bool) (a b
             (subst Must so_far.all must);
         gave = subst (Gives of_state a c) (sym (all_of-snoc reads read))
             (Gives-trans of_state a b c (all_of reads) read kept so_far.gave gave);
-        told = subst (Grows a.history c.history)
-            (ap (λ xs. flat_map read_of reads ++ xs) (sym (append-nil (read_of read)))
-            ∙ sym (flat_map-append read_of reads (read ∷ [])))
+        told = rw (flat_map-append read_of reads (read ∷ []), append-nil (read_of read))
             (Grows-trans a.history b.history c.history (flat_map read_of reads) (read_of read)
             so_far.told told);
-        all = ap (λ xs. xs ++ read) so_far.all
-            ∙ (append_assoc held (all_of reads) read
-            ∙ ap (λ xs. held ++ xs) (sym (all_of-snoc reads read)));
+        all = simp (all_of-snoc reads read, so_far.all, append_assoc);
         unread = λ none. absurd (some_reads reads read none);
         aside = aside ∙ so_far.aside;
         reaches = reaches_read was mid is reads read so_far.reaches more none;
@@ -120,9 +110,7 @@ pub Gathers-failed : (Must : List ℕ → Type 0) (held : List ℕ) (was mid is 
     → b.failures ≡ a.failures → Must text → FailsOnce b c ⊎ (c ≡ b) → new ≡ text → is ≡ mid
     → Gathers Must held was is a c new
 Gathers-failed Must held was mid is a b c text new so_far more kept must (inr same) all last =
-    subst (λ d. Gathers Must held was is a d new) (sym same)
-    (subst (Gathers Must held was is a b) (sym all)
-    (subst (λ e. Gathers Must held was e a b text) (sym last) so_far))
+    rw (same, all, last) so_far
 Gathers-failed Must held was mid is a b c text new so_far more kept must (inl fails) all last =
     subst (Gathers Must held was is a c) (append-nil text ∙ sym all)
     (once Must held was mid is a b c text [] so_far more kept must

@@ -12,19 +12,12 @@ use Rattle.ascii_lines.specs.Serve.{AtEachRead, IsFlushed}
 pub AreWrites-append : (xs ys : List Event) → AreWrites xs → AreWrites ys → AreWrites (xs ++ ys)
 AreWrites-append [] ys first then = then
 AreWrites-append (Sent b ∷ xs) ys first then = AreWrites-append xs ys first then
-AreWrites-append (Read ∷ xs) ys first then = absurd first
-AreWrites-append (Received b ∷ xs) ys first then = absurd first
 AreWrites-append (Flushed ∷ xs) ys first then = AreWrites-append xs ys first then
+AreWrites-append _ ys first then = absurd first
 
 pub AreWrites-sent : (bytes : List ℕ) → AreWrites (write_of bytes)
 AreWrites-sent [] = tt
 AreWrites-sent (b ∷ bytes) = AreWrites-sent bytes
-
--- the bytes that two rows of events sent
-noted_two : (xs ys : List Event) (one two : List ℕ) → sent_of xs ≡ one → sent_of ys ≡ two
-    → sent_of (xs ++ ys) ≡ one ++ two
-noted_two xs ys one two first then =
-    sent_of-append xs ys ∙ (ap (λ zs. zs ++ sent_of ys) first ∙ ap (λ zs. one ++ zs) then)
 
 -- the bytes were written
 pub TellsSent-write : {a b : Option (List Event)} (sent : List ℕ)
@@ -42,7 +35,7 @@ TellsSent-trans {a} {b} {c} sent more one two = record {
   events = one.events ++ two.events;
   grows = Grows-trans a b c one.events two.events one.grows two.grows;
   writes = AreWrites-append one.events two.events one.writes two.writes;
-  noted = noted_two one.events two.events sent more one.noted two.noted;
+  noted = simp (sent_of-append, one.noted, two.noted);
 }
 
 -- ---- what writes and reads gave and sent
@@ -52,8 +45,7 @@ pub received_of-writes : (events : List Event) → AreWrites events → received
 received_of-writes [] writes = refl
 received_of-writes (Sent b ∷ events) writes = received_of-writes events writes
 received_of-writes (Flushed ∷ events) writes = received_of-writes events writes
-received_of-writes (Read ∷ events) writes = absurd writes
-received_of-writes (Received b ∷ events) writes = absurd writes
+received_of-writes _ writes = absurd writes
 
 pub received_of-bytes : (bytes : List ℕ) → received_of (map Received bytes) ≡ bytes
 received_of-bytes [] = refl
@@ -74,15 +66,9 @@ AtEachRead-append P past (Read ∷ xs) ys first then = (
   AtEachRead-append P (past ++ Read ∷ []) xs ys first.1
       (subst (λ p. AtEachRead P p ys) (sym (append_assoc past (Read ∷ []) xs)) then),
 )
-AtEachRead-append P past (Received b ∷ xs) ys first then =
-    AtEachRead-append P (past ++ Received b ∷ []) xs ys first
-    (subst (λ p. AtEachRead P p ys) (sym (append_assoc past (Received b ∷ []) xs)) then)
-AtEachRead-append P past (Sent b ∷ xs) ys first then =
-    AtEachRead-append P (past ++ Sent b ∷ []) xs ys first
-    (subst (λ p. AtEachRead P p ys) (sym (append_assoc past (Sent b ∷ []) xs)) then)
-AtEachRead-append P past (Flushed ∷ xs) ys first then =
-    AtEachRead-append P (past ++ Flushed ∷ []) xs ys first
-    (subst (λ p. AtEachRead P p ys) (sym (append_assoc past (Flushed ∷ []) xs)) then)
+AtEachRead-append P past (other ∷ xs) ys first then =
+    AtEachRead-append P (past ++ other ∷ []) xs ys first
+    (subst (λ p. AtEachRead P p ys) (sym (append_assoc past (other ∷ []) xs)) then)
 
 pub AtEachRead-writes : (P : List Event → Type 0) (past events : List Event) → AreWrites events
     → AtEachRead P past events
@@ -91,8 +77,7 @@ AtEachRead-writes P past (Sent b ∷ events) writes =
     AtEachRead-writes P (past ++ Sent b ∷ []) events writes
 AtEachRead-writes P past (Flushed ∷ events) writes =
     AtEachRead-writes P (past ++ Flushed ∷ []) events writes
-AtEachRead-writes P past (Read ∷ events) writes = absurd writes
-AtEachRead-writes P past (Received b ∷ events) writes = absurd writes
+AtEachRead-writes P past _ writes = absurd writes
 
 pub AtEachRead-received : (P : List Event → Type 0) (past : List Event) (bytes : List ℕ)
     → AtEachRead P past (map Received bytes)

@@ -18,37 +18,48 @@ at_place bytes s e k low high =
 
 -- ---- bytes taken from the front
 
--- what is held after `n` bytes were taken
-pub held_rest : (bytes : List ℕ) (from filled n : ℕ) → n ≤ filled - from
-    → slice_range bytes (from + n) filled ≡ drop n (slice_range bytes from filled)
-held_rest bytes from filled n low =
-    let size : filled - from ≡ n + (filled - (from + n)) = omega (arith, low) in
-    sym (ap (λ k. drop n (take k (drop from bytes))) size
-    ∙ (drop-take n (filled - (from + n)) (drop from bytes)
-    ∙ ap (take (filled - (from + n))) (drop-drop n from bytes)))
+module _ (size : ℕ) (bytes : List ℕ) (given from checked filled n : ℕ) (held : List ℕ)
+    (laid : IsLaidOut size bytes given from checked filled)
+    (view : slice_range bytes from filled ≡ held) (low : n ≤ length held) where
+  inside : from + n ≤ filled
+  inside = omega (
+    arith,
+    low,
+    ap length view,
+    length-slice_range bytes from filled (omega (arith, laid.then_from, laid.then_checked))
+        laid.inside,
+    laid.then_from,
+    laid.then_checked,
+  )
 
--- where the bytes are after `n` were taken, of which one is not less than 128
-pub laid_after : (size : ℕ) (bytes : List ℕ) (given from checked filled n m : ℕ)
-    → IsLaidOut size bytes given from checked filled → from + n ≤ filled
-    → IsAsciiLength (slice_range bytes (from + n) filled) m
-    → IsLaidOut size bytes from (from + n) (from + n + m) filled
-laid_after size bytes given from checked filled n m laid low ascii =
-    let long = length-slice_range bytes (from + n) filled low laid.inside in
-    let within : m ≤ filled - (from + n) = omega (arith, ascii.within, long) in
-    record {
-      given_first = omega arith;
-      then_from = omega arith;
-      then_checked = omega (arith, within, low);
-      inside = laid.inside;
-      ascii = λ k after before. subst (λ x. x < 128)
-          (at_place bytes (from + n) filled k after (omega (arith, before, within, low)))
-          (ascii.ascii (k - (from + n)) (omega (arith, after, before)));
-      other = λ less. subst (λ x. 128 ≤ x)
-          (slice_range-at bytes (from + n) filled m (omega (arith, less, within)))
-          (ascii.other (omega (arith, less, long)));
-      roomy = laid.roomy;
-      two = laid.two;
-    }
+  -- what is held after `n` bytes were taken
+  pub held_rest : slice_range bytes (from + n) filled ≡ drop n held
+  held_rest =
+      let size : filled - from ≡ n + (filled - (from + n)) = omega (arith, inside) in
+      sym (ap (λ k. drop n (take k (drop from bytes))) size
+      ∙ (drop-take n (filled - (from + n)) (drop from bytes)
+      ∙ ap (take (filled - (from + n))) (drop-drop n from bytes))) ∙ ap (drop n) view
+
+  -- where the bytes are after `n` were taken, of which one is not less than 128
+  pub laid_after : (m : ℕ) → IsAsciiLength (slice_range bytes (from + n) filled) m
+      → IsLaidOut size bytes from (from + n) (from + n + m) filled
+  laid_after m ascii =
+      let long = length-slice_range bytes (from + n) filled inside laid.inside in
+      let within : m ≤ filled - (from + n) = omega (arith, ascii.within, long) in
+      record {
+        given_first = omega arith;
+        then_from = omega arith;
+        then_checked = omega (arith, within, inside);
+        inside = laid.inside;
+        ascii = λ k after before. subst (λ x. x < 128)
+            (at_place bytes (from + n) filled k after (omega (arith, before, within, inside)))
+            (ascii.ascii (k - (from + n)) (omega (arith, after, before)));
+        other = λ less. subst (λ x. 128 ≤ x)
+            (slice_range-at bytes (from + n) filled m (omega (arith, less, within)))
+            (ascii.other (omega (arith, less, long)));
+        roomy = laid.roomy;
+        two = laid.two;
+      }
 
 -- ---- a read after the bytes
 

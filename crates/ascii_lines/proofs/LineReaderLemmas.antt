@@ -1,7 +1,7 @@
 -- What a line reader has read and yielded, one call after another.
 use Rattle.std.proofs.Common.{◌≡◌, ◌≢◌, ℕ, ◌+◌, ◌-◌, List, [], ◌∷◌, ◌++◌, length, take, None, Some}
 use Rattle.std.proofs.Common.{Ok, Err, Option, Result, refl, sym, ap, subst, ◌∙◌, arith, inl, inr}
-use Rattle.std.proofs.Common.{◌<◌, ◌^◌, add-zero, append_assoc, append-nil, length-append}
+use Rattle.std.proofs.Common.{◌<◌, ◌^◌, add-zero, append_assoc, append-nil, length-append, ◌⊎◌}
 use Rattle.std.specs.Io.KnownBytes.{Consumes, IsAtEnd}
 use Rattle.std.specs.List.{All, flat_map}
 use Rattle.std.proofs.Math.Seq.{take-append-add}
@@ -17,6 +17,7 @@ use Rattle.ascii.specs.Spans.{LineSpansEndedBy, WithStart, items_of, line_size, 
 use Rattle.ascii.proofs.LinesByLemmas.{MayFollow-ended, any_text_spans, some_spans}
 use Rattle.ascii.proofs.LinesLemmas.{LinesEndedBy-nil}
 use Rattle.ascii_devices.proofs.HistoryLemmas.{Gives-nil, Gives-trans}
+use Rattle.ascii_devices.proofs.ListLemmas.{append_two}
 use Rattle.ascii_devices.specs.States.{of_state}
 use Rattle.ascii_lines.specs.LineReader.{IsDone, Next, NextFrom, PassesOver, ReaderState, Reading}
 use Rattle.ascii_lines.specs.LineReader.{ReadsBytes, StopsAt, Takes, TakesLine, YieldsLines}
@@ -42,8 +43,7 @@ with_starts-append s (x ∷ xs) ys =
     let far : (s + line_size x) + length (flat_map line_text xs) ≡ s + length
     (line_text x ++ flat_map line_text xs) =
     omega (arith, length-append (line_text x) (flat_map line_text xs)) in
-    ap (λ zs. record { start = s; item = x } ∷ zs) (with_starts-append (s + line_size x) xs ys
-    ∙ ap (λ n. with_starts line_size (s + line_size x) xs ++ with_starts line_size n ys) far)
+    rw (with_starts-append (s + line_size x) xs ys, far)
 
 ended-append : (xs ys : List Line) → All (λ line. line.ending ≢ Absent) xs
     → All (λ line. line.ending ≢ Absent) (take (length ys - 1) ys)
@@ -80,15 +80,15 @@ LineSpansEndedBy-append kind start t u xs ys first ended then =
         ended = ended-append (items_of xs) (items_of ys)
             (All-map (λ (line : Line). line.ending ≢ Absent)
             (λ (span : WithStart Line). span.item) xs ended) then.lines.ended;
-        joined = flat_map-append line_text (items_of xs) (items_of ys)
-            ∙ (ap (λ zs. zs ++ flat_map line_text (items_of ys)) first.lines.joined
-            ∙ ap (λ zs. t ++ zs) then.lines.joined);
+        joined = simp (flat_map-append, first.lines.joined, then.lines.joined);
       });
-      starts = ap (λ zs. zs ++ ys) first.starts
-          ∙ (ap (λ zs. with_starts line_size start (items_of xs) ++ zs)
-          (then.starts ∙ ap (λ n. with_starts line_size n (items_of ys)) long)
-          ∙ (sym (with_starts-append start (items_of xs) (items_of ys))
-          ∙ ap (with_starts line_size start) (sym is)));
+      starts = rw (
+        is,
+        with_starts-append start (items_of xs) (items_of ys),
+        ← long,
+        ← first.starts,
+        ← then.starts,
+      ) refl;
     }
 
 -- ---- one call more
@@ -117,10 +117,7 @@ PassesOver-trans a b c bytes more first then =
       text = (
         t.0 ++ t'.0,
         Gives-trans of_state a.device b.device c.device t.0 t'.0 first.failures t.1 t'.1,
-        append_assoc bytes more c.held
-            ∙ (ap (λ zs. bytes ++ zs) t'.2
-            ∙ (sym (append_assoc bytes b.held t'.0)
-            ∙ (ap (λ zs. zs ++ t'.0) t.2 ∙ append_assoc a.held t.0 t'.0))),
+        append_two bytes more c.held b.held a.held t.0 t'.0 t.2 t'.2,
       );
       start = omega (arith, first.over.start, then.start, length-append bytes more);
       size = then.size ∙ first.over.size;
@@ -177,32 +174,21 @@ no_line wanted old new takes done = record {
 }
 
 -- nothing was read yet
-pub ReadsBytes-nil : (a : ReaderState) → ReadsBytes a [] a
-ReadsBytes-nil a = record {
-  over = record {
-    text = ([], Gives-nil of_state a.device, sym (append-nil a.held));
-    start = sym (add-zero a.start);
-    size = refl;
-    endings = refl;
-  };
-  failures = refl;
-}
-
 pub yields_nil : (old : ReaderState) → old.stage ≡ Open → YieldsLines old [] old
 yields_nil old going = record {
   handed = [];
-  reads = ReadsBytes-nil old;
+  reads = record {
+    over = record {
+      text = ([], Gives-nil of_state old.device, sym (append-nil old.held));
+      start = sym (add-zero old.start);
+      size = refl;
+      endings = refl;
+    };
+    failures = refl;
+  };
   exact = record { lines = LinesEndedBy-nil old.endings; starts = refl };
   whole = inl (going, All-nil IsEnded);
 }
-
-pub none_is_some : (result : Result (Option ReadLine) LineError) (line : ReadLine)
-    → result ≡ Ok None → result ≡ Ok (Some line) → ⊥
-none_is_some result line none some = cc
-
-err_is_some : (result : Result (Option ReadLine) LineError) (error : LineError)
-    (line : ReadLine) → result ≡ Err error → result ≡ Ok (Some line) → ⊥
-err_is_some result error line err some = cc
 
 pub line_bytes : (body : List ℕ) (ending : Ending) → MayFollow ending body
     → 0 < length (body ++ ending_text ending)
@@ -220,55 +206,44 @@ line_has_bytes endings bytes line exact =
     subst (λ xs. 0 < length xs)
     (sym (append-nil (line_text line)) ∙ exact.joined) some
 
-none_is_err : (result : Result (Option ReadLine) LineError) (error : LineError)
-    → result ≡ Ok None → result ≡ Err error → ⊥
-none_is_err result error none err = cc
-
 -- the next line of a reader, after the lines before it
 module _ {S : Type 0} where
+  -- what was returned is what an open reader returns, or the reader has ended
+  next_by : (a : ReaderState) (lines : List (WithStart Line)) (old new : Reading S)
+      (result shown : Result (Option ReadLine) LineError) → YieldsLines a lines old.state
+      → Next old result new → result ≡ shown
+      → ((old.state.stage ≡ Open) × All IsEnded lines × NextFrom Open old shown new)
+      ⊎ (IsDone old.state × (shown ≡ Ok None) × (new ≡ old))
+  next_by a lines old new result shown so_far next is = grind arith
+
   pub one_more : (a : ReaderState) (lines : List (WithStart Line)) (old new : Reading S)
       (result : Result (Option ReadLine) LineError) (line : ReadLine) (last : WithStart Line)
       → YieldsLines a lines old.state
       → Next old result new → result ≡ Ok (Some line) → last ≡ read_line_in line
       → YieldsLines a (lines ++ last ∷ []) new.state
-  one_more a lines old new result line last so_far next is same = elim so_far.whole [
-    | inl more ↦
-        let open_next : NextFrom Open old (Ok (Some line)) new =
-        subst (λ r. NextFrom Open old r new) is
-        (subst (λ stage. NextFrom stage old result new) more.0 next) in
-        subst (λ l. YieldsLines a (lines ++ l ∷ []) new.state) (sym same)
-        (YieldsLines-append a old.state new.state lines (read_line_in line ∷ []) so_far more.1
-        (one_line (wanted.Line old.state.endings) old.state (read_line_in line) new.state
-        open_next))
-    | inr done ↦
-        let ended_next : NextFrom Ended old result new =
-        subst (λ stage. NextFrom stage old result new) done.ended next in
-        absurd (none_is_some result line ended_next.0 is)
-  ]
+  one_more a lines old new result line last so_far next is same =
+      elim (next_by a lines old new result (Ok (Some line)) so_far next is) [
+        | inl more ↦ rw same (YieldsLines-append a old.state new.state lines
+            (read_line_in line ∷ []) so_far more.1
+            (one_line (wanted.Line old.state.endings) old.state (read_line_in line) new.state
+            more.2))
+        | inr ended ↦ let e : Ok (Some line) ≡ Ok None = ended.1 in cc
+      ]
 
   -- a line that was returned has a byte, and ends at a position that fits a `u64`
   pub line_advances : (old new : Reading S) (result : Result (Option ReadLine) LineError)
       (line : ReadLine) → Next old result new → result ≡ Ok (Some line)
       → (old.state.start < new.state.start) × (new.state.start < 2 ^ 64)
-  line_advances old new result line next is = go old.state.stage refl
+  line_advances old new result line next is = go old.state.stage (rw is at next)
     where
-      go : (stage : Stage) → old.state.stage ≡ stage
+      go : (stage : Stage) → NextFrom stage old (Ok (Some line)) new
           → (old.state.start < new.state.start) × (new.state.start < 2 ^ 64)
-      go Open at =
-          let takes : NextFrom Open old (Ok (Some line)) new =
-          subst (λ r. NextFrom Open old r new) is
-          (subst (λ stage. NextFrom stage old result new) at next) in
+      go Open takes =
           let some = line_has_bytes old.state.endings takes.bytes (read_line_in line).item
           takes.exact.lines in
           (omega (arith, takes.takes.start, some), takes.takes.in_range)
-      go Ended at =
-          let ended : NextFrom Ended old result new =
-          subst (λ stage. NextFrom stage old result new) at next in
-          absurd (none_is_some result line ended.0 is)
-      go (Refused error) at =
-          let refused : NextFrom (Refused error) old result new =
-          subst (λ stage. NextFrom stage old result new) at next in
-          absurd (err_is_some result error line refused.0 is)
+      go Ended (none, same) = let e : Ok (Some line) ≡ Ok None = none in cc
+      go (Refused error) (refused, same) = let e : Ok (Some line) ≡ Err error = refused in cc
 
   -- the end of the lines of a reader
   pub no_more : (a : ReaderState) (lines : List (WithStart Line)) (old new : Reading S)
@@ -276,23 +251,16 @@ module _ {S : Type 0} where
       → YieldsLines a lines old.state
       → Next old result new → result ≡ Ok None
       → YieldsLines a lines new.state × IsDone new.state
-  no_more a lines old new result so_far next is = elim so_far.whole [
-    | inl more ↦
-        let open_next : NextFrom Open old (Ok None) new =
-        subst (λ r. NextFrom Open old r new) is
-        (subst (λ stage. NextFrom stage old result new) more.0 next) in (
+  no_more a lines old new result so_far next is =
+      elim (next_by a lines old new result (Ok None) so_far next is) [
+        | inl more ↦ (
           subst (λ all. YieldsLines a all new.state) (append-nil lines)
               (YieldsLines-append a old.state new.state lines [] so_far more.1
-              (no_line (wanted.Line old.state.endings) old.state new.state open_next.0
-              open_next.1)),
-          open_next.1,
+              (no_line (wanted.Line old.state.endings) old.state new.state more.2.0 more.2.1)),
+          more.2.1,
         )
-    | inr done ↦
-        let ended_next : NextFrom Ended old result new =
-        subst (λ stage. NextFrom stage old result new) done.ended next in
-        subst (λ (r : Reading S). YieldsLines a lines r.state × IsDone r.state)
-        (sym ended_next.1) (so_far, done)
-  ]
+        | inr ended ↦ rw ended.2 (so_far, ended.0)
+      ]
 
   -- an error after the lines of a reader
   pub an_error : (a : ReaderState) (lines : List (WithStart Line)) (old new : Reading S)
@@ -300,17 +268,11 @@ module _ {S : Type 0} where
       → YieldsLines a lines old.state → Next old result new → result ≡ Err error
       → (before : ReaderState) × YieldsLines a lines before × (before.stage ≡ Open)
       × StopsAt (wanted.Line before.endings) before error new.state
-  an_error a lines old new result error so_far next is = elim so_far.whole [
-    | inl more ↦
-        let open_next : NextFrom Open old (Err error) new =
-        subst (λ r. NextFrom Open old r new) is
-        (subst (λ stage. NextFrom stage old result new) more.0 next) in
-        (old.state, so_far, more.0, open_next)
-    | inr done ↦
-        let ended_next : NextFrom Ended old result new =
-        subst (λ stage. NextFrom stage old result new) done.ended next in
-        absurd (none_is_err result error ended_next.0 is)
-  ]
+  an_error a lines old new result error so_far next is =
+      elim (next_by a lines old new result (Err error) so_far next is) [
+        | inl more ↦ (old.state, so_far, more.0, more.2)
+        | inr ended ↦ let e : Err error ≡ Ok None = ended.1 in cc
+      ]
 
 -- ---- the lines of all that the source tells
 
@@ -318,16 +280,7 @@ module _ {S : Type 0} where
 told_parts : (old left : Option (List ℕ)) (read told : List ℕ) → old ≡ Some told
     → Consumes old left read → (more : List ℕ) × (told ≡ read ++ more)
     × (IsAtEnd left → more ≡ [])
-told_parts None left read told is gave = absurd (let e : None ≡ Some told = is in cc)
-told_parts (Some xs) None read told is gave = absurd gave
-told_parts (Some xs) (Some ys) read told is gave = (
-  ys,
-  (let e : Some xs ≡ Some told = is in let same : xs ≡ told = cc in sym same ∙ gave),
-  λ none. none,
-)
-
-going_is_not_done : (reading : ReaderState) → reading.stage ≡ Open → IsDone reading → ⊥
-going_is_not_done reading going done = let ended : reading.stage ≡ Ended = done.ended in cc
+told_parts old left read told is gave = grind (arith, append-nil)
 
 -- the lines yielded are the first lines of all bytes, and all of them at the end
 pub first_lines : (old new : ReaderState) (lines : List (WithStart Line)) (told : List ℕ)
@@ -342,29 +295,26 @@ first_lines old new lines told is hands =
     let parts = told_parts old.device.rest gave.rest over.text.0 told is gave.gave in
     let more = parts.0 in
     let whole : old.held ++ told ≡ hands.handed ++ (new.held ++ more) =
-    ap (λ zs. old.held ++ zs) parts.1 ∙ (sym (append_assoc old.held over.text.0 more)
-    ∙ (ap (λ zs. zs ++ more) (sym over.text.2) ∙ append_assoc hands.handed new.held more)) in
-    let exact = any_text_spans old.endings old.start hands.handed lines hands.exact in
+    ap (λ zs. old.held ++ zs) parts.1
+    ∙ rw (← append_assoc old.held over.text.0 more, ← over.text.2)
+    (append_assoc hands.handed new.held more) in
     let kind = any_text old.endings in
-    let all_done : IsDone new → LineSpansEndedBy kind old.start (old.held ++ told) (lines ++ [])
-    = λ done.
-    let none : new.held ++ more ≡ [] = ap (λ zs. zs ++ more) done.none ∙ parts.2
-    (subst IsAtEnd (gave.left hands.reads.failures) done.left) in
-    subst (λ zs. LineSpansEndedBy kind old.start (old.held ++ told) zs) (sym (append-nil lines))
-    (subst (λ zs. LineSpansEndedBy kind old.start zs lines)
-    (sym (whole ∙ (ap (λ zs. hands.handed ++ zs) none ∙ append-nil hands.handed)))
-    exact) in
+    let exact = any_text_spans old.endings old.start hands.handed lines hands.exact in
     elim hands.whole [
       | inl going ↦
           let then = some_spans old.endings (old.start + length hands.handed) (new.held ++ more)
           in (
             then.0,
-            subst (λ zs. LineSpansEndedBy kind old.start zs (lines ++ then.0)) (sym whole)
-                (LineSpansEndedBy-append kind old.start hands.handed (new.held ++ more) lines
-                then.0
-                exact going.1 then.1),
-            λ done. absurd (going_is_not_done new going.0 done),
+            rw whole (LineSpansEndedBy-append kind old.start hands.handed (new.held ++ more) lines
+                then.0 exact going.1 then.1),
+            λ done. let e : Open ≡ Ended = sym going.0 ∙ done.ended in cc,
             hands.exact.lines.bodies,
           )
-      | inr done ↦ ([], all_done done, λ _. refl, hands.exact.lines.bodies)
+      | inr done ↦
+          let none = parts.2 (rw (gave.left hands.reads.failures) at done.left) in (
+            [],
+            rw (whole, none, done.none) (simp append-nil exact),
+            λ _. refl,
+            hands.exact.lines.bodies,
+          )
     ]

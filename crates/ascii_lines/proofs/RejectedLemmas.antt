@@ -27,12 +27,11 @@ module _ (size i j n : ℕ) (all text : List ℕ) (is_at_end : Bool) (same : i �
       | inl (stop, is) ↦
           let at = in_front all text others j parts (omega (arith, lone.inside, stop)) in
           omega (arith, is, at, ap (λ k. get_or all k 0) same, cr)
-      | inr rest ↦ elim rest [
-        | inl (stop, is, other) ↦
-            let at = in_front all text others (j + 1) parts (omega (arith, lone.inside, stop)) in
-            other (at ∙ (ap (λ k. get_or all (k + 1) 0) (sym same) ∙ feed))
-        | inr (stop, whole, is, last) ↦ nothing others parts (omega (arith, stop, whole)) last
-      ]
+      | inr (inl (stop, is, other)) ↦
+          let at = in_front all text others (j + 1) parts (omega (arith, lone.inside, stop)) in
+          other (at ∙ (ap (λ k. get_or all (k + 1) 0) (sym same) ∙ feed))
+      | inr (inr (stop, whole, is, last)) ↦
+          nothing others parts (omega (arith, stop, whole)) last
     ]
       where
         nothing : (others : List ℕ) → all ≡ text ++ others → length text ≡ j + 1

@@ -1,16 +1,13 @@
 -- Replies of a handler, one after another.
 use Rattle.std.proofs.Common.{◌≡◌, ℕ, List, [], ◌∷◌, ◌++◌, Bool, true, false, IsTrue, append_assoc}
-use Rattle.std.proofs.Common.{append-nil, Err, Ok, Result, ap, inl, inr, refl, subst, sym, ◌∙◌}
-use Rattle.std.specs.Prelude.{not}
+use Rattle.std.proofs.Common.{append-nil, Result, ap, inl, inr, refl, subst, sym, ◌∙◌, arith}
 use Rattle.std.proofs.lemmas.Bool.{false≢true}
 use Rattle.std.proofs.lemmas.Grind.{flat_map-append}
 use Rattle.std.proofs.lemmas.List.Folds.{list_all_at}
-use Rattle.ascii.specs.Lines.{ending_text}
 use Rattle.std.proofs.KnownBytes.{Appends-nil}
 use Rattle.ascii_devices.proofs.HistoryLemmas.{Grows-nil}
 use Rattle.ascii_devices.specs.Buffered.{OutputState}
 use Rattle.ascii_lines.specs.Failures.{one_more}
-use Rattle.ascii.specs.Endings.{is_line_break}
 use Rattle.ascii_lines.specs.LineWriter.{FailsToWrite, WritesBytes}
 use Rattle.ascii_lines.specs.Replies.{Reply, IsLineOutcome, Says, SaysBytes, Saying, is_unbroken}
 use Rattle.ascii_lines.specs.Replies.{line_given, line_reply, part_reply, reply_bytes, reply_text}
@@ -94,8 +91,7 @@ module _ {K : Type 0} where
   pub Says-trans : (a b c : Saying K) (first after : List Reply) → Says a first b
       → Says b after c → Says a (first ++ after) c
   Says-trans a b c first after one two = (
-    subst (λ bytes. SaysBytes a.state.buffer.is_broken a.state bytes c.state)
-        (sym (flat_map-append (reply_text a.ending) first after))
+    rw (flat_map-append (reply_text a.ending) first after)
         (SaysBytes-trans a.state.buffer.is_broken b.state.buffer.is_broken a.state b.state c.state
         (reply_bytes a.ending first) (reply_bytes a.ending after) refl refl one.0
         (subst (λ e. SaysBytes b.state.buffer.is_broken b.state (reply_bytes e after) c.state)
@@ -107,25 +103,16 @@ module _ {K : Type 0} where
   pub said_line : (a b : Saying K) (body : List ℕ) (result : Result (Unit {0}) ℕ)
       → IsTrue (is_unbroken body) → IsLineOutcome a body result b
       → Says a (line_given body result) b → Says a (line_reply body ∷ []) b
-  said_line a b body (Ok done) clean outcome says = says
-  said_line a b body (Err k) clean outcome says = absurd (false≢true
-      (sym (list_all_at (λ code. not (is_line_break code)) body k 0 outcome.0.0.high
-      (ap not outcome.0.1)) ∙ clean))
+  said_line a b body result clean outcome says = grind (arith, list_all_at)
 
   -- a part, and then a line, are one line
   pub said_joined : (a b c : Saying K) (text more : List ℕ) → Says a (part_reply text ∷ []) b
       → Says b (line_reply more ∷ []) c → Says a (line_reply (text ++ more) ∷ []) c
   said_joined a b c text more one two =
-      let end = ending_text a.ending in
-      let both = Says-trans a b c (part_reply text ∷ []) (line_reply more ∷ []) one two in (
-        subst (λ bytes. SaysBytes a.state.buffer.is_broken a.state bytes c.state)
-            (sym (ap (λ bytes. bytes ++ []) (append_assoc text more end)
-            ∙ append_assoc text (more ++ end) [])) both.0,
-        both.1,
-      )
+      let both = Says-trans a b c (part_reply text ∷ []) (line_reply more ∷ []) one two in
+      (simp append_assoc (simp append_assoc at both.0), both.1)
 
   -- a part, and then an empty line, are a line
   pub said_text : (a b c : Saying K) (text : List ℕ) → Says a (part_reply text ∷ []) b
       → Says b (line_reply [] ∷ []) c → Says a (line_reply text ∷ []) c
-  said_text a b c text one two = subst (λ (body : List ℕ). Says a (line_reply body ∷ []) c)
-      (append-nil text) (said_joined a b c text [] one two)
+  said_text a b c text one two = rw (append-nil text) at (said_joined a b c text [] one two)

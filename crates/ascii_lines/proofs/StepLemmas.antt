@@ -1,6 +1,6 @@
 -- What the steps of a conversation say of its input.
 use Rattle.std.proofs.Common.{◌≡◌, ◌+◌, ◌<◌, ℕ, List, [], ◌∷◌, ◌++◌, ap, arith, inl, inr, length}
-use Rattle.std.proofs.Common.{length-append, refl, subst, sym, ◌∙◌}
+use Rattle.std.proofs.Common.{length-append, refl, subst, sym}
 use Rattle.std.proofs.lemmas.List.{nil_from_length}
 use Rattle.ascii.specs.Lines.{Line}
 use Rattle.ascii.specs.declared.iter.spans.Ending.TheVariants.{Absent}
@@ -8,10 +8,10 @@ use Rattle.ascii.specs.declared.iter.spans.Endings.{Endings}
 use Rattle.ascii_lines.specs.Exchanges.{TakesNothing, bytes_of, step_bytes}
 use Rattle.ascii_lines.specs.Replies.{IsInputOf, IsRequest, Reply, Step, rejected, skipped, took}
 use Rattle.ascii_lines.specs.Steps.{Explains}
-use Rattle.ascii_lines.specs.Turns.{Completes, Faults, IsRequested, IsTurn, IsTurnAt, Place, Turns}
-use Rattle.ascii_lines.specs.Turns.{Wants, awaited_by}
+use Rattle.ascii_lines.specs.Turns.{Completes, IsRequested, IsTurn, IsTurnAt, Place, Turns, Wants}
+use Rattle.ascii_lines.specs.Turns.{awaited_by}
 use Rattle.ascii_lines.specs.declared.conversation.Awaited.{Awaited}
-use Rattle.ascii_lines.specs.declared.conversation.Awaited.TheVariants.{Input, LineEnd, Nothing}
+use Rattle.ascii_lines.specs.declared.conversation.Awaited.TheVariants.{Input, LineEnd}
 use Rattle.ascii_lines.specs.declared.conversation.Supply.{Supply}
 use Rattle.ascii_lines.specs.declared.conversation.Supply.TheVariants as supply
 use Rattle.ascii_lines.specs.declared.line_reader.LineError.{LineError}
@@ -23,9 +23,7 @@ use Rattle.ascii_lines.proofs.LineReaderLemmas.{line_has_bytes}
 use Rattle.ascii_lines.proofs.TurnsLemmas.{Turns-bytes, ends_some, turn_bytes}
 
 requests_by : (then : Next) → IsRequest then → IsRequested (awaited_by then)
-requests_by next.Line request = request
-requests_by (next.Part n) request = request
-requests_by next.Close request = tt
+requests_by then request = grind arith
 
 module _ {H : Type 0} (answers : H → Line → List Reply → Next → H → Type 0)
     (refuses : H → LineError → List Reply → Next → H → Type 0) (endings : Endings) (size : ℕ)
@@ -57,15 +55,8 @@ module _ {H : Type 0} (answers : H → Line → List Reply → Next → H → Ty
           → IsTurnAt answers refuses endings size now awaited p (rejected error said) q
           → Explains endings size now (a.start + length (bytes_of before))
           (bytes_of after ++ c.text) error
-      go p q start left (Input asked) t = (
-        asked,
-        t.1,
-        t.4,
-        subst (λ k. Faults now t.1 k size (bytes_of after ++ c.text) error) start
-            (subst (λ xs. Faults now t.1 p.start size xs error) (sym t.7 ∙ left) t.6),
-      )
-      go p q start left (LineEnd then) t = absurd t
-      go p q start left (Nothing why) t = absurd t
+      go p q start left (Input asked) t = (asked, t.1, t.4, rw (← start, ← left, t.7) t.6)
+      go p q start left _ t = absurd t
 
   -- ---- after the last byte
 
@@ -77,49 +68,23 @@ module _ {H : Type 0} (answers : H → Line → List Reply → Next → H → Ty
       go : (awaited : Awaited) (step : Step)
           → IsTurnAt answers refuses endings size now awaited a step b → IsRequested awaited
           → IsRequested b.awaited
-      go (Input asked) (took input said) t request =
-          subst IsRequested (sym t.3) (requests_by t.0 t.4)
-      go (Input asked) (rejected error said) t request = elim t.2 [
-        | inl on ↦ subst IsRequested (sym on.0) t.3
-        | inr over ↦ subst IsRequested (sym over.0) tt
-      ]
-      go (Input asked) (skipped bytes) t request =
-          subst IsRequested (sym (ap (λ (p : Place H). p.awaited) t.3)) tt
-      go (LineEnd then) (skipped bytes) t request = elim t.3 [
-        | inl skips ↦ elim skips [
-          | inl ends ↦ subst IsRequested (sym ends.0) (requests_by then request)
-          | inr others ↦ elim others [
-            | inl on ↦ subst IsRequested (sym on.0) request
-            | inr others ↦ elim others [
-              | inl over ↦ subst IsRequested (sym over.0) tt
-              | inr why ↦ subst IsRequested (sym why.1) tt
-            ]
-          ]
-        ]
-        | inr over ↦ subst IsRequested (sym over.0) tt
-      ]
-      go (LineEnd then) (took input said) t request = absurd t
-      go (LineEnd then) (rejected error said) t request = absurd t
-      go (Nothing why) step t request = absurd t
+      go awaited step t request = grind (arith, requests_by)
 
   -- what is given has a byte
   some_given : (asked : Next) (what : Wanted) (bytes left : List ℕ) (input : Line)
       → Wants endings asked what → IsRequested (Input asked) → IsInputOf what bytes input
       → Completes now what bytes left → 0 < length bytes
-  some_given asked (wanted.Line kind) bytes left input wants request is completes =
-      line_has_bytes kind bytes input is.0
-  some_given asked (wanted.Bytes kind) bytes left input wants request is completes =
-      line_has_bytes kind bytes input is.0
   some_given asked (wanted.Part n) bytes left input wants request is completes = elim completes [
     | inl ends ↦ ends_some endings asked (wanted.Part n) bytes (length bytes) wants request ends
     | inr last ↦ absurd last.2
   ]
+  some_given asked _ bytes left input wants request is completes =
+      line_has_bytes _ bytes input is.0
 
   takes_nothing : (a c : Place H) (steps : List Step) → now ≡ supply.Ended → a.text ≡ []
       → IsRequested a.awaited → Turns answers refuses endings size now a steps c
       → TakesNothing steps × (c.text ≡ [])
-  takes_nothing a c [] ended none request same =
-      (tt, ap (λ (p : Place H). p.text) same ∙ none)
+  takes_nothing a c [] ended none request same = (tt, rw same none)
   takes_nothing a c (step ∷ steps) ended none request (mid, turn, turns) =
       let bytes = (turn_bytes answers refuses endings size now a mid step turn).0 in
       let long = length-append (step_bytes step) mid.text in
@@ -143,9 +108,7 @@ module _ {H : Type 0} (answers : H → Line → List Reply → Next → H → Ty
       go (Input asked) (rejected error said) request t taken then = (t.6.5 ended none, then)
       go (Input asked) (skipped bytes) request t taken then = (taken, then)
       go (LineEnd asked) (skipped bytes) request t taken then = (taken, then)
-      go (LineEnd asked) (took input said) request t taken then = absurd t
-      go (LineEnd asked) (rejected error said) request t taken then = absurd t
-      go (Nothing why) step request t taken then = absurd t
+      go _ _ request t taken then = absurd t
 
   -- a line without an ending is the last: no byte is taken after it, and none is left
   pub unended_last : (a b c : Place H) (input : Line) (said : List Reply) (steps : List Step)
@@ -155,10 +118,8 @@ module _ {H : Type 0} (answers : H → Line → List Reply → Next → H → Ty
   unended_last a b c input said steps line turn absent turns =
       let t = subst (λ w. IsTurnAt answers refuses endings size now w a (took input said) b) line turn
       in
-      let is : IsInputOf (wanted.Line endings) t.2 input =
-      subst (λ w. IsInputOf w t.2 input) t.5 t.6 in
-      let completes : Completes now (wanted.Line endings) t.2 b.text =
-      subst (λ w. Completes now w t.2 b.text) t.5 t.7 in
+      let is = rw t.5 at t.6 in
+      let completes = rw t.5 at t.7 in
       elim completes [
         | inl whole ↦ absurd (is.2 whole absent)
         | inr last ↦ takes_nothing b c steps last.0 last.1

@@ -1,6 +1,6 @@
 -- Bytes that were written through a buffer, one piece after another.
 use Rattle.std.proofs.Common.{◌≡◌, ℕ, List, [], ◌++◌, ap, sym, subst, ◌∙◌, append_assoc, append-nil}
-use Rattle.std.proofs.Common.{Err, Ok, OnErr, Result, Bool, true, false, ◌+◌, ◌-◌, ◌^◌, ◌<◌, arith}
+use Rattle.std.proofs.Common.{Err, Ok, OnErr, Result, Bool, true, false, ◌-◌, ◌^◌, ◌<◌, arith}
 use Rattle.std.proofs.lemmas.Bool.{false≢true}
 use Rattle.std.proofs.KnownBytes.{Appends-trans}
 use Rattle.ascii_devices.specs.Buffered.{AppendsBy, AppendsBytes, FinishOutcome, OutputState}
@@ -59,24 +59,14 @@ front_of a b bytes (sent, others, sends, is) = record {
   all = is;
 }
 
--- one more failure is counted
-counted : (n m : ℕ) → n < 2 ^ 64 - 1 → m ≡ n + 1 → m ≡ one_more n
-counted n m low is = omega (arith, low, is)
-
 whole_by : (q : Bool) (a b : OutputState) (bytes : List ℕ) → AppendsBy false q a b bytes
     → q ≡ false → Passes a b bytes × (b.failures ≡ a.failures)
-whole_by false a b bytes (sent, sends, is, same) none = (
-  record { sent = sent; took = sends.0; told = TellsSent-write sent sends.1; all = is },
-  same,
-)
-whole_by true a b bytes appends none = absurd (false≢true (sym none))
+whole_by q a b bytes appends none = grind (arith, TellsSent-write)
 
 broken_by : (q : Bool) (a b : OutputState) (bytes : List ℕ) → AppendsBy false q a b bytes
     → a.failures < 2 ^ 64 - 1 → q ≡ true
     → PassesPrefix a b bytes × (b.failures ≡ one_more a.failures)
-broken_by false a b bytes appends low some = absurd (false≢true some)
-broken_by true a b bytes (front, count) low some =
-    (front_of a b bytes front, counted a.failures b.failures low count)
+broken_by q a b bytes appends low some = grind (arith, front_of)
 
 -- bytes were appended to a buffer through which no write had failed
 pub puts : {a b : OutputState} (bytes : List ℕ) → a.buffer.is_broken ≡ false
@@ -103,7 +93,7 @@ finish_fails a b (Err fault) ready low outcome broken size aside =
       whole = λ whole. absurd (false≢true (sym whole ∙ broken));
       broken = λ _. (
         front_of a b [] (subst (SendsFront a b) (sym (append-nil a.buffer.bytes)) front),
-        counted a.failures b.failures low count,
+        omega (arith, low, count),
       );
       size = size;
       aside = aside;

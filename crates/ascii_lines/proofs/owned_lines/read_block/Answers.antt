@@ -1,12 +1,11 @@
-use Rattle.std.proofs.Common.{Ok, ◌≡◌, ◌≢◌, ◌++◌, ◌∷◌, [], map, ap, arith, length-append, refl}
-use Rattle.std.proofs.Common.{sym, subst, ◌∙◌}
+use Rattle.std.proofs.Common.{Ok, ◌≢◌, ◌∷◌, [], map, ap, arith, length-append, refl, sym, subst}
+use Rattle.std.proofs.Common.{◌∙◌}
 use Rattle.std.proofs.lemmas.Bool.{false≢true}
 use Rattle.std.proofs.lemmas.List.{length-map, map-append}
 use Rattle.std.proofs.lemmas.List.Elements.{All-append, All-cons, All-nil}
 use Rattle.ascii.specs.Lines.{Line}
 use Rattle.ascii.specs.Spans.{WithStart}
-use Rattle.ascii_lines.specs.CollectedLines.{IsBlock, owned_line_in}
-use Rattle.ascii_lines.specs.LineReader.{YieldsLines, read_line_in}
+use Rattle.ascii_lines.specs.CollectedLines.{owned_line_in}
 use Rattle.ascii_lines.proofs.LineReaderLemmas.{no_more, one_more, yields_nil}
 use Rattle.ascii_lines.proofs.TakesLemmas.{on_error}
 use Rattle.ascii_lines.proofs.owned_lines.read_block.Goals as goal
@@ -20,60 +19,44 @@ lines-init g c = rw c.new-lines.ensures.items
     (yields_nil c.args.reader.now.state c.requires, (All-nil IsFull, omega arith))
 
 pub returns-then-is_empty-clause-runs : goal.returns-then-is_empty-clause-runs
-returns-then-is_empty-clause-runs g c =
-    let so_far = map owned_line_in c.lines.lines.items in
-    let last = read_line_in c.in-Ok-Some.line in (
-      c.lines.invariant.1,
-      (
-        last,
-        c.if-is_empty.ensures.0 refl,
-        one_more c.args.reader.now.state so_far c.lines.reader
-            c.next_line.follows.lender-at-none c.next_line.result c.in-Ok-Some.line last
-            c.lines.invariant.0 c.next_line.follows.holds-at-none
-            (c.in-Ok-Some.is ∙ ap Ok c.in-Ok-Some.field-0-is) refl,
-      ),
-    )
+returns-then-is_empty-clause-runs g c = (
+  c.lines.invariant.1,
+  (
+    _,
+    c.if-is_empty.ensures.0 refl,
+    one_more _ _ c.lines.reader c.next_line.follows.lender-at-none _ _ _ c.lines.invariant.0
+        c.next_line.follows.holds-at-none (c.in-Ok-Some.is ∙ ap Ok c.in-Ok-Some.field-0-is) refl,
+  ),
+)
 
 pub returns-in_err-owned_line-in-Ok-Some-clause-lost :
     goal.returns-in_err-owned_line-in-Ok-Some-clause-lost
-returns-in_err-owned_line-in-Ok-Some-clause-lost g c =
-    let so_far = map owned_line_in c.lines.lines.items in
-    let last = read_line_in c.in-Ok-Some.line in
-    on_error c.from_residual.result (
-      so_far ++ last ∷ [],
-      one_more c.args.reader.now.state so_far c.lines.reader c.next_line.follows.lender-at-none
-          c.next_line.result c.in-Ok-Some.line last c.lines.invariant.0
-          c.next_line.follows.holds-at-none (c.in-Ok-Some.is ∙ ap Ok c.in-Ok-Some.field-0-is)
-          refl,
-    )
+returns-in_err-owned_line-in-Ok-Some-clause-lost g c = on_error c.from_residual.result (
+  _,
+  one_more _ _ c.lines.reader c.next_line.follows.lender-at-none _ _ _ c.lines.invariant.0
+      c.next_line.follows.holds-at-none (c.in-Ok-Some.is ∙ ap Ok c.in-Ok-Some.field-0-is) refl,
+)
 
 pub returns-in_err-push-in-Ok-Some-clause-lost :
     goal.returns-in_err-push-in-Ok-Some-clause-lost
 returns-in_err-push-in-Ok-Some-clause-lost g c =
-    let so_far = map owned_line_in c.lines.lines.items in
-    let last = read_line_in c.in-Ok-Some.line in
     on_error c.from_residual-in_err-push-in-Ok-Some.result (
-      so_far ++ last ∷ [],
-      one_more c.args.reader.now.state so_far c.lines.reader c.next_line.follows.lender-at-none
-          c.next_line.result c.in-Ok-Some.line last c.lines.invariant.0
-          c.next_line.follows.holds-at-none (c.in-Ok-Some.is ∙ ap Ok c.in-Ok-Some.field-0-is)
-          refl,
+      _,
+      one_more _ _ c.lines.reader c.next_line.follows.lender-at-none _ _ _ c.lines.invariant.0
+          c.next_line.follows.holds-at-none (c.in-Ok-Some.is ∙ ap Ok c.in-Ok-Some.field-0-is) refl,
     )
 
 pub lines-preserved : goal.lines-preserved
 lines-preserved g c =
-    let old = c.args.reader.now.state in
-    let new = c.next_line.follows.lender-at-none in
     let so_far = map owned_line_in c.lines.lines.items in
     let kept = c.in_ok-owned_line-in-Ok-Some.field-0 in
-    let more = one_more old so_far c.lines.reader new c.next_line.result c.in-Ok-Some.line
-    (owned_line_in kept) c.lines.invariant.0 c.next_line.follows.holds-at-none
-    (c.in-Ok-Some.is ∙ ap Ok c.in-Ok-Some.field-0-is) c.in_ok-owned_line-in-Ok-Some.ensures in
-    let is : map owned_line_in c.push.new.self.items ≡ so_far ++ owned_line_in kept ∷ [] =
-    ap (map owned_line_in) c.in_ok-push-in-Ok-Some.ensures.items
-    ∙ map-append owned_line_in c.lines.lines.items (kept ∷ []) in
-    subst (λ lines. YieldsLines old lines new.state × IsBlock c.args.most lines) (sym is) (
-      more,
+    rw (
+      c.in_ok-push-in-Ok-Some.ensures.items,
+      map-append owned_line_in c.lines.lines.items (kept ∷ []),
+    ) (
+      one_more _ _ c.lines.reader c.next_line.follows.lender-at-none _ _ _ c.lines.invariant.0
+          c.next_line.follows.holds-at-none (c.in-Ok-Some.is ∙ ap Ok c.in-Ok-Some.field-0-is)
+          c.in_ok-owned_line-in-Ok-Some.ensures,
       (
         All-append IsFull so_far (owned_line_in kept ∷ []) c.lines.invariant.1.0
             (All-cons IsFull (owned_line_in kept) []
@@ -92,7 +75,6 @@ lines-preserved g c =
 
 pub returns-in-Ok-None-clause-runs : goal.returns-in-Ok-None-clause-runs
 returns-in-Ok-None-clause-runs g c =
-    let none = no_more c.args.reader.now.state (map owned_line_in c.lines.lines.items)
-    c.lines.reader c.next_line.follows.lender-at-none c.next_line.result c.lines.invariant.0
+    let none = no_more _ _ c.lines.reader c.next_line.follows.lender-at-none _ c.lines.invariant.0
     c.next_line.follows.holds-at-none (c.in-Ok-None.is ∙ ap Ok c.in-Ok-None.field-0-is) in
     (c.lines.invariant.1, none.0, none.1)

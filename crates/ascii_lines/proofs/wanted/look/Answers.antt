@@ -1,14 +1,16 @@
 use Rattle.std.proofs.Common.{arith, length, subst}
+use Rattle.ascii_lines.specs.LineReader.{Looks, window_at}
 use Rattle.ascii_lines.specs.Wanted.{IsRefusal}
-use Rattle.ascii_lines.proofs.TakesLemmas.{err_looks, find_ends, looked_for}
-use Rattle.ascii_lines.proofs.TakesLemmas.{refusal_looks, unfit_looks}
+use Rattle.ascii_lines.proofs.TakesLemmas.{find_ends, from_err, looked_for, refusal_looks}
+use Rattle.ascii_lines.proofs.TakesLemmas.{unfit_looks}
 use Rattle.ascii_lines.proofs.wanted.look.Goals as goal
 
 pub returns-in_err-may_fit : goal.returns-in_err-may_fit
 returns-in_err-may_fit g c =
     let error = c.in_err-may_fit.field-0.0 in
-    err_looks c.args.wanted c.args.start c.args.is_ended c.args.buffer.now c.from_residual.result
-    error c.from_residual.ensures.1
+    from_err c.from_residual.result error
+    (Looks c.args.wanted c.args.start (window_at c.args.is_ended c.args.buffer.now))
+    c.from_residual.ensures.1
     (unfit_looks c.args.wanted c.args.start c.args.is_ended c.args.buffer.now error
     (rw c.size.ensures at c.in_err-may_fit.ensures.err))
 

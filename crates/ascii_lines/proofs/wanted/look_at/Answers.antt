@@ -1,21 +1,20 @@
-use Rattle.std.proofs.Common.{Err, Ok, subst}
+use Rattle.std.proofs.Common.{Err, subst}
+use Rattle.ascii_lines.specs.LineReader.{Looks, window_at}
 use Rattle.ascii_lines.specs.Wanted.{IsEndOf}
-use Rattle.ascii_lines.specs.LineReader.{window_at}
-use Rattle.ascii_lines.proofs.TakesLemmas.{end_found, end_rejects, err_looks}
+use Rattle.ascii_lines.proofs.TakesLemmas.{end_found, end_rejects, from_err}
 use Rattle.ascii_lines.proofs.wanted.look_at.Goals as goal
 
 pub returns-in_err-end : goal.returns-in_err-end
 returns-in_err-end g c =
+    let window = window_at c.args.is_ended c.args.buffer.now in
     let error = c.in_err-end.field-0.0 in
-    err_looks c.args.wanted c.args.start c.args.is_ended c.args.buffer.now c.from_residual.result
-    error c.from_residual.ensures.1
-    (end_rejects c.args.wanted c.args.start (window_at c.args.is_ended c.args.buffer.now) c.args.n
-    c.args.is_last c.requires error
+    from_err c.from_residual.result error (Looks c.args.wanted c.args.start window)
+    c.from_residual.ensures.1
+    (end_rejects c.args.wanted c.args.start window c.args.n c.args.is_last c.requires error
     (subst (λ bytes. IsEndOf c.args.wanted c.args.start bytes c.args.is_last (Err error))
     c.front.ensures c.in_err-end.ensures))
 
 pub returns : goal.returns
 returns g c = end_found c.args.wanted c.args.start (window_at c.args.is_ended c.args.buffer.now)
     c.args.n c.args.is_last c.requires c.in_ok-end.end
-    (subst (λ bytes. IsEndOf c.args.wanted c.args.start bytes c.args.is_last (Ok c.in_ok-end.end))
-    c.front.ensures c.in_ok-end.ensures)
+    (rw c.front.ensures at c.in_ok-end.ensures)

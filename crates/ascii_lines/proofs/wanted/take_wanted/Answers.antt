@@ -1,22 +1,20 @@
-use Rattle.std.proofs.Common.{◌≡◌, ◌++◌, ℕ, Bool, ap, arith, false, inl, inr, length}
+use Rattle.std.proofs.Common.{◌≡◌, ℕ, Bool, IfErr, ap, arith, false, inl, inr, length}
 use Rattle.std.proofs.Common.{length-append, None, Ok, Option, Some, refl, subst, sym, take, ◌∙◌}
 use Rattle.std.proofs.Math.Seq.{take-append_seam}
 use Rattle.ascii_devices.specs.States.{source_state}
 use Rattle.ascii_lines.specs.Failures.{one_more}
 use Rattle.ascii_lines.specs.LineReader.{Looks, window_at}
-use Rattle.ascii_lines.specs.Wanted.{MustRead, Refuses, Rejects}
+use Rattle.ascii_lines.specs.Wanted.{MustRead, Refuses}
 use Rattle.ascii_lines.specs.LineBuffer.{WindowState}
 use Rattle.ascii_lines.specs.declared.wanted.Found.{Found}
 use Rattle.ascii_lines.specs.declared.wanted.Wanted.{Wanted}
 use Rattle.ascii_lines.proofs.GathersLemmas.{Gathers-failed, Gathers-nil, Gathers-read}
-use Rattle.ascii_lines.proofs.TakesLemmas.{counts_none, same_err, takes_off}
+use Rattle.ascii_lines.proofs.TakesLemmas.{counts_none, from_err, takes_off}
 use Rattle.ascii_lines.proofs.wanted.take_wanted.Goals as goal
 
 pub fills-init : goal.fills-init
 fills-init g c = (
-  Gathers-nil (MustRead c.args.wanted c.args.start c.args.buffer.now.size)
-      c.args.buffer.now.held c.args.buffer.now.is_at_end
-      (source_state g.S.Source c.args.source.now) c.requires,
+  Gathers-nil _ _ _ (source_state g.S.Source c.args.source.now) c.requires,
   refl,
   refl,
   inl refl,
@@ -26,18 +24,14 @@ pub returns-in_err-found-clause-err : goal.returns-in_err-found-clause-err
 returns-in_err-found-clause-err g c =
     let error = c.in_err-found.field-0.0 in
     let looks = c.in_err-found.ensures in
-    let held = c.fills.buffer.held in
-    same_err c.from_residual.result error
-    (Refuses c.args.wanted c.args.start c.args.buffer.now.size c.args.buffer.now.held
-    c.args.buffer.now.is_at_end c.fills.buffer.is_at_end
-    (source_state g.S.Source c.args.source.now) (source_state g.S.Source c.fills.source) held)
-    c.from_residual.ensures.1
+    from_err c.from_residual.result error
+    (λ r. IfErr r (Refuses c.args.wanted c.args.start c.args.buffer.now.size
+    c.args.buffer.now.held c.args.buffer.now.is_at_end c.fills.buffer.is_at_end
+    (source_state g.S.Source c.args.source.now) (source_state g.S.Source c.fills.source)
+    c.fills.buffer.held)) c.from_residual.ensures.1
     (record {
       gathers = c.fills.invariant.0;
-      why = subst (λ is. Rejects c.args.wanted c.args.start c.args.buffer.now.size held is error)
-          c.is_at_end-is_ended.ensures
-          (subst (λ size. Rejects c.args.wanted c.args.start size held c.is_at_end-is_ended.result
-          error) c.fills.invariant.2 looks.0);
+      why = rw (c.fills.invariant.2, c.is_at_end-is_ended.ensures) at looks.0;
       failures = c.fills.invariant.1
           ∙ sym (counts_none (g.S.Source.failures c.args.source.now) error looks.1);
     })
@@ -68,49 +62,41 @@ must : (wanted : Wanted) (start size : ℕ) (buffer : WindowState) (ended : Bool
     → Looks wanted start (window_at ended buffer) (Ok found)
     → (buffer.is_at_end ≡ false) × MustRead wanted start size buffer.held
 must wanted start size buffer ended found is none same look =
-    let waits = looks wanted start buffer ended found None is none look in
-    (waits.0, subst (λ k. MustRead wanted start k buffer.held) same waits.1)
+    rw same at (looks wanted start buffer ended found None is none look)
 
 pub returns-in_default-fill-clause-err : goal.returns-in_default-fill-clause-err
 returns-in_default-fill-clause-err g c =
-    let Must = MustRead c.args.wanted c.args.start c.args.buffer.now.size in
     let read = must c.args.wanted c.args.start c.args.buffer.now.size c.fills.buffer
     c.is_at_end-is_ended.result c.in_ok-found.field-0 c.is_at_end-is_ended.ensures c.in_default.is
     c.fills.invariant.2 c.in_ok-found.ensures in
     let fails = c.in_default-fill.ensures.outcome in
     record {
-      gathers = Gathers-failed Must c.args.buffer.now.held c.args.buffer.now.is_at_end
-          c.fills.buffer.is_at_end c.fill.new.self.is_at_end
-          (source_state g.S.Source c.args.source.now) (source_state g.S.Source c.fills.source)
-          (source_state g.S.Source c.fill.new.source) c.fills.buffer.held c.fill.new.self.held
+      gathers = Gathers-failed _ _ _ _ _ (source_state g.S.Source c.args.source.now)
+          (source_state g.S.Source c.fills.source) (source_state g.S.Source c.fill.new.source) _ _
           c.fills.invariant.0 read.0 c.fills.invariant.1 read.1 fails.0 fails.1 fails.2;
-      why = subst Must (sym fails.1) read.1;
+      why = rw fails.1 read.1;
       failures = fails.3 ∙ ap one_more c.fills.invariant.1;
     }
 
 pub fills-preserved : goal.fills-preserved
 fills-preserved g c =
-    let Must = MustRead c.args.wanted c.args.start c.args.buffer.now.size in
-    let held = c.fills.buffer.held in
     let waits = must c.args.wanted c.args.start c.args.buffer.now.size c.fills.buffer
     c.is_at_end-is_ended.result c.in_ok-found.field-0 c.is_at_end-is_ended.ensures c.in_default.is
     c.fills.invariant.2 c.in_ok-found.ensures in
     let read = c.in-Ok.ensures.outcome in
+    let held = c.fills.buffer.held in
+    let size = c.in-Ok.ensures.size ∙ c.fills.invariant.2 in
     let n = c.len-searched.result in
-    let front : take n c.fill.new.self.held ≡ held = ap (take n) read.2
-    ∙ (ap (λ k. take k (held ++ read.0)) c.len-searched.ensures ∙ take-append_seam held read.0) in (
-      Gathers-read Must c.args.buffer.now.held c.args.buffer.now.is_at_end
-          c.fills.buffer.is_at_end c.fill.new.self.is_at_end
-          (source_state g.S.Source c.args.source.now)
+    let front : take n c.fill.new.self.held ≡ held =
+    rw (read.2, c.len-searched.ensures) (take-append_seam held read.0) in (
+      Gathers-read _ _ _ _ _ (source_state g.S.Source c.args.source.now)
           (source_state g.S.Source c.fills.source) (source_state g.S.Source c.fill.new.source)
           held read.0 c.fills.invariant.0 waits.0 c.fills.invariant.1 waits.1
           c.fill.new.self.held read.1 read.2 read.3,
       read.1.failures ∙ c.fills.invariant.1,
-      c.in-Ok.ensures.size ∙ c.fills.invariant.2,
+      size,
       inr (
         omega (arith, c.len-searched.ensures, ap length read.2, length-append held read.0),
-        subst (MustRead c.args.wanted c.args.start c.fill.new.self.size) (sym front)
-            (subst (λ size. MustRead c.args.wanted c.args.start size held)
-            (sym (c.in-Ok.ensures.size ∙ c.fills.invariant.2)) waits.1),
+        rw (front, size) waits.1,
       ),
     )

@@ -1,8 +1,6 @@
-use Rattle.std.proofs.Common.{[], append-nil, sym}
 use Rattle.ascii_lines.proofs.TurnsLemmas.{rests_searched}
 use Rattle.ascii_lines.proofs.conversation.Conversation.end.Goals as goal
 
 pub converse-requires-clause-searched : goal.converse-requires-clause-searched
 converse-requires-clause-searched g c = λ apart. rests_searched _ _ _ _
-    c.self.inside.dialogue.buffer.held _ [] c.len-searched.result c.self.invariant apart
-    c.len-searched.ensures (sym (append-nil c.self.inside.dialogue.buffer.held))
+    c.self.inside.dialogue.buffer.held _ c.self.invariant apart c.len-searched.ensures

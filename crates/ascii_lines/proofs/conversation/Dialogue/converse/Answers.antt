@@ -21,7 +21,7 @@ pub turns-preserved : goal.turns-preserved
 turns-preserved g c =
     let is : c.turn.result ≡ true = search rules in (
       then_goes _ _ _ _ _ _ _ _ _ c.turns.invariant.0 _ _ c.turns.invariant.2
-          c.turns.invariant.1 _ _ c.turn.result c.turn.ensures.turn is,
+          c.turns.invariant.1 _ _ (rw is at c.turn.ensures.turn),
       c.turn.ensures.size ∙ c.turns.invariant.1,
       c.turn.ensures.endings ∙ c.turns.invariant.2,
       c.turn.ensures.at_end ∙ c.turns.invariant.3,

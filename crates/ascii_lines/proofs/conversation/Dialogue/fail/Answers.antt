@@ -1,13 +1,13 @@
 use Rattle.std.proofs.Common.{rules}
 use Rattle.ascii_lines.specs.Turns.{IsOver}
-use Rattle.ascii_lines.proofs.TurnsLemmas.{Going-first, fail_asked, fail_line, fail_over}
+use Rattle.ascii_lines.proofs.TurnsLemmas.{Going-first, fail_asked, fail_line, over_rests}
 use Rattle.ascii_lines.proofs.TurnsLemmas.{rests_lacks, then_breaks}
 use Rattle.ascii_lines.proofs.conversation.Dialogue.fail.Goals as goal
 
 pub returns-then-is_over-clause-converses : goal.returns-then-is_over-clause-converses
 returns-then-is_over-clause-converses g c =
     let over : IsOver c.args.self.now.awaited = search rules in
-    fail_over _ _ _ _ _ c.args.handler.now _ _ _ c.args.replies.now _ over c.requires
+    over_rests _ _ _ _ _ _ _ _ _ _ over c.requires
 
 pub returns-then-is_broken-clause-converses : goal.returns-then-is_broken-clause-converses
 returns-then-is_broken-clause-converses g c =
@@ -19,11 +19,12 @@ pub returns-in-Input-clause-converses : goal.returns-in-Input-clause-converses
 returns-in-Input-clause-converses g c =
     let apart : ¬ (IsOver c.args.self.now.awaited) = search rules in
     let said = c.refuse-next.ensures.refuses in
-    fail_asked _ _ _ _ _ _ _ _ _ _ _ c.in-Input.field-0 c.refuse-next.result said.0 c.in-Input.is
-    (rests_lacks _ _ _ _ _ c.requires apart) said.1 said.2 c.refuse-next.ensures.request
+    rw c.in-Input.is (fail_asked _ _ _ _ _ _ _ _ _ _ _ _ said.0 (rw c.in-Input.is at c.requires.0)
+    (rw c.in-Input.is at (rests_lacks _ _ _ _ _ c.requires apart)) said.1 said.2
+    c.refuse-next.ensures.request)
 
 pub returns-in-LineEnd-clause-converses : goal.returns-in-LineEnd-clause-converses
 returns-in-LineEnd-clause-converses g c =
     let apart : ¬ (IsOver c.args.self.now.awaited) = search rules in
-    fail_line _ _ _ _ _ c.args.handler.now _ _ _ c.args.replies.now _ c.in-LineEnd.field-0
-    c.in-LineEnd.is (rests_lacks _ _ _ _ _ c.requires apart)
+    rw c.in-LineEnd.is (fail_line _ _ _ _ _ _ _ _ _ (rw c.in-LineEnd.is at c.requires.0)
+    (rw c.in-LineEnd.is at (rests_lacks _ _ _ _ _ c.requires apart)))

@@ -7,28 +7,38 @@ use Rattle.ascii_lines.proofs.LineBufferLemmas.{held_more, refilled, refilled_ot
 use Rattle.ascii_lines.proofs.line_buffer.LineBuffer.put.Goals as goal
 use Rattle.ascii_lines.proofs.line_buffer.LineBuffer.put.Goals.{then-self, else-self}
 
+-- the bytes of the vector after the copy
+put_back : (g : _) (c : goal.After-self-2-1 g)
+    → take c.self.inside.bytes.len (c.copy_behind-n.new.bytes
+    ++ drop (length c.copy_behind-n.new.bytes) c.self.inside.bytes.items)
+    ≡ c.copy_behind-n.new.bytes
+put_back g c = take_at c.copy_behind-n.new.bytes _ c.self.inside.bytes.len
+    (c.copy_behind-n.ensures.len ∙ c.deref_mut.ensures.len)
+
+-- the bytes before those that were copied are unchanged
+front : (g : _) (c : goal.After-self-2-1 g)
+    → take c.self.inside.filled c.copy_behind-n.new.bytes
+    ≡ take c.self.inside.filled c.self.inside.bytes.items
+front g c = c.copy_behind-n.ensures.front ∙ ap (take c.self.inside.filled) c.deref_mut.ensures.value
+
 pub invariant_of-self : goal.invariant_of-self
 invariant_of-self g c =
     let i = c.self.inside in
     let new = c.copy_behind-n.new.bytes in
-    let back : take i.bytes.len (new ++ drop (length new) i.bytes.items) ≡ new =
-    take_at new _ i.bytes.len (c.copy_behind-n.ensures.len ∙ c.deref_mut.ensures.len) in
-    let front : take i.filled new ≡ take i.filled i.bytes.items =
-    c.copy_behind-n.ensures.front ∙ ap (take i.filled) c.deref_mut.ensures.value in
     let same : length new ≡ length i.bytes.items =
     c.copy_behind-n.ensures.len ∙ ap length c.deref_mut.ensures.value in
     elim c.if-self.branch [
       | then-self w ↦
           let all : i.checked ≡ i.filled = search in
-          rw (w.self-inside-is, back)
-          (refilled i.bytes.items new i.filled front i.size i.given i.from c.copy_behind-n.result
-          w.ascii_len.result
+          rw (w.self-inside-is, put_back g c)
+          (refilled i.bytes.items new i.filled (front g c) i.size i.given i.from
+          c.copy_behind-n.result w.ascii_len.result
           (subst (λ k. IsLaidOut i.size i.bytes.items i.given i.from k i.filled) all
           c.self.invariant) same c.copy_behind-n.ensures.within.1
-          (rw (w.deref.ensures.value, back) at w.ascii_len.ensures))
+          (rw (w.deref.ensures.value, put_back g c) at w.ascii_len.ensures))
       | else-self w ↦
-          rw (w.self-inside-is, back)
-          (refilled_other i.bytes.items new i.filled front i.size i.given i.from i.checked
+          rw (w.self-inside-is, put_back g c)
+          (refilled_other i.bytes.items new i.filled (front g c) i.size i.given i.from i.checked
           c.copy_behind-n.result c.self.invariant (omega
           (arith, c.self.invariant.then_checked, w.if-self.false)) same
           c.copy_behind-n.ensures.within.1)
@@ -40,17 +50,15 @@ returns g c =
     let n = c.copy_behind-n.result in
     let new = c.copy_behind-n.new.bytes in
     let laid = c.self.invariant in
-    let back : take i.bytes.len (new ++ drop (length new) i.bytes.items) ≡ new =
-    take_at new _ i.bytes.len (c.copy_behind-n.ensures.len ∙ c.deref_mut.ensures.len) in
-    let front : take i.filled new ≡ take i.filled i.bytes.items =
-    c.copy_behind-n.ensures.front ∙ ap (take i.filled) c.deref_mut.ensures.value in
-    let held : slice_range new i.from (i.filled + n) ≡ c.args.self.now.held
-    ++ take n c.args.bytes.now =
-    held_more i.bytes.items new i.filled front i.from n
+    let held : slice_range new i.from (i.filled + n)
+    ≡ c.args.self.now.held ++ take n c.args.bytes.now =
+    held_more i.bytes.items new i.filled (front g c) i.from n
     (omega (arith, laid.then_from, laid.then_checked))
     ∙ (ap (λ xs. xs ++ slice_range new i.filled (i.filled + n))
     (ap (λ (w : WindowState). w.held) c.self.view_is ∙ c.move_to_front.ensures.held)
     ∙ ap (λ xs. c.args.self.now.held ++ xs) c.copy_behind-n.ensures.copied) in
+    let size = ap (λ (w : WindowState). w.size) c.self.view_is ∙ c.move_to_front.ensures.size in
+    let room = ap (λ (w : WindowState). w.room) c.self.view_is ∙ c.move_to_front.ensures.room in
     let most : (n ≡ length c.args.bytes.now)
     ⊎ (length (slice_range new i.from (i.filled + n)) ≡ c.args.self.now.room) =
     elim c.copy_behind-n.ensures.most [
@@ -71,27 +79,15 @@ returns g c =
     record {
       within = c.copy_behind-n.ensures.within.0;
       held = elim c.if-self.branch [
-        | then-self w ↦ rw (w.self-inside-is, back) held
-        | else-self w ↦ rw (w.self-inside-is, back) held
+        | then-self w ↦ rw (w.self-inside-is, put_back g c) held
+        | else-self w ↦ rw (w.self-inside-is, put_back g c) held
       ];
       most = elim c.if-self.branch [
-        | then-self w ↦ rw (w.self-inside-is, back) most
-        | else-self w ↦ rw (w.self-inside-is, back) most
+        | then-self w ↦ rw (w.self-inside-is, put_back g c) most
+        | else-self w ↦ rw (w.self-inside-is, put_back g c) most
       ];
-      roomy = omega (
-        arith,
-        laid.roomy,
-        ap (λ (w : WindowState). w.size) c.self.view_is,
-        c.move_to_front.ensures.size,
-        ap (λ (w : WindowState). w.room) c.self.view_is,
-        c.move_to_front.ensures.room,
-      );
-      two = omega (
-        arith,
-        laid.two,
-        ap (λ (w : WindowState). w.room) c.self.view_is,
-        c.move_to_front.ensures.room,
-      );
+      roomy = omega (arith, laid.roomy, size, room);
+      two = omega (arith, laid.two, room);
       size = search rules;
       at_end = search rules;
     }
