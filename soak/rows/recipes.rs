@@ -124,7 +124,7 @@ fn many_headers(rows: &mut Rows) {
     let names: Vec<String> = (0..2_000).map(|number| format!("X-{number}")).collect();
     let headers: Vec<(&str, &str)> = names.iter().map(|name| (name.as_str(), "some value")).collect();
     let block: String = names.iter().map(|name| format!("{name}: some value\r\n")).collect();
-    for number in (0..2_100).step_by(50).chain([1_999]) {
+    for number in 0..2_001 {
         let (name, named) = (format!("x-{number}"), (number < 2_000).then_some((number, number)));
         rows.ask(|asked| {
             ask_headers(name.as_bytes(), block.as_bytes(), &headers, named, asked);
