@@ -12,9 +12,7 @@ use Rattle.ascii_lines.specs.LineBuffer.{IsAsciiLength, IsLaidOut}
 -- a byte of a part, by its position in the whole
 at_place : (bytes : List ℕ) (s e k : ℕ) → s ≤ k → k < e
     → get_or (slice_range bytes s e) (k - s) 0 ≡ get_or bytes k 0
-at_place bytes s e k low high =
-    let same : s + (k - s) ≡ k = omega arith in
-    slice_range-at bytes s e (k - s) (omega arith) ∙ ap (λ j. get_or bytes j 0) same
+at_place bytes s e k low high = grind (arith, slice_range-at)
 
 -- ---- bytes taken from the front
 
@@ -22,15 +20,7 @@ module _ (size : ℕ) (bytes : List ℕ) (given from checked filled n : ℕ) (he
     (laid : IsLaidOut size bytes given from checked filled)
     (view : slice_range bytes from filled ≡ held) (low : n ≤ length held) where
   inside : from + n ≤ filled
-  inside = omega (
-    arith,
-    low,
-    ap length view,
-    length-slice_range bytes from filled (omega (arith, laid.then_from, laid.then_checked))
-        laid.inside,
-    laid.then_from,
-    laid.then_checked,
-  )
+  inside = grind (arith, length-slice_range)
 
   -- what is held after `n` bytes were taken
   pub held_rest : slice_range bytes (from + n) filled ≡ drop n held
@@ -117,14 +107,4 @@ module _ (old new : List ℕ) (filled : ℕ) (front : take filled new ≡ take f
       → IsLaidOut size old given from checked filled → checked < filled
       → length new ≡ length old → filled + n ≤ length new
       → IsLaidOut size new given from checked (filled + n)
-  refilled_other size given from checked n laid other same within = record {
-    given_first = laid.given_first;
-    then_from = laid.then_from;
-    then_checked = omega (arith, laid.then_checked);
-    inside = within;
-    ascii = λ k low high. subst (λ x. x < 128)
-        (sym (at_front k (omega (arith, high, other)))) (laid.ascii k low high);
-    other = λ less. subst (λ x. 128 ≤ x) (sym (at_front checked other)) (laid.other other);
-    roomy = omega (arith, laid.roomy, same);
-    two = omega (arith, laid.two, same);
-  }
+  refilled_other size given from checked n laid other same within = grind (arith, at_front)

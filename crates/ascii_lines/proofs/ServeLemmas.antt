@@ -399,18 +399,9 @@ module _ {H : Type 0} (answers : H → Line → List Reply → Next → H → Ty
         sent = b.sent;
         count = b.count;
         going = c.closed;
-        used = λ ends. elim (c.ended ends) [
-          | inl was ↦ absurd (apart (stop.EndOfInput, was))
-          | inr done ↦ (
-            done,
-            elim c.rests.1 [
-              | inl lacks ↦ absurd (subst (λ a. Lacks endings size a new.start new.held) ends lacks)
-              | inr over ↦ over.1 ends
-            ],
-          )
-        ];
-        lacks = elim c.rests.1 [ inl lacks ↦ inl lacks | inr over ↦ inr over.0 ];
-        failed = λ ends. then_right (c.failed ends) (λ was. apart (stop.Writer, was));
+        used = grind arith;
+        lacks = grind arith;
+        failed = grind arith;
       }
 
   -- a channel in the state of `mid`, of which the replies were to be sent, is then `now`
