@@ -114,8 +114,7 @@ stop_none awaited is over = grind arith
 -- what came by one read
 pub read_is : {a b : SourceState} (is_at_end : Bool) (read : List ℕ)
     → is_at_end ≡ (length read == 0) → ReadsOnce a b read → IsRead (supply_at is_at_end) a b read
-read_is {a} {b} true read is reads = (reads, is_none read (sym is))
-read_is {a} {b} false read is reads = (reads, is_some read (sym is))
+read_is {a} {b} is_at_end read is reads = grind (arith, is_none, is_some)
 
 -- a flush that was done
 flushed_by : {C : Type 0} (q : Bool) (a b : Writing C) (done : Unit {0})

@@ -71,11 +71,7 @@ module _ {H : Type 0} (answers : H → Line → List Reply → Next → H → Ty
       go : (awaited : Awaited) (step : Step)
           → IsTurnAt answers refuses endings size now awaited a step b
           → (a.text ≡ step_bytes step ++ b.text) × (b.start ≡ a.start + length (step_bytes step))
-      go (Input asked) (took input said) t = rw (input_bytes t.1 t.2 input t.6) (t.9, t.10)
-      go (Input asked) (rejected error said) t = (sym t.7, omega (arith, t.8))
-      go (Input asked) (skipped bytes) t = rw (t.3, t.1) (refl, omega arith)
-      go (LineEnd then) (skipped bytes) t = (t.1, t.2)
-      go _ _ t = absurd t
+      go awaited step t = grind (arith, input_bytes, append-nil)
 
   -- steps take bytes, and go on after them
   pub Turns-bytes : (a b : Place H) (steps : List Step)
