@@ -523,7 +523,8 @@ module _ {H : Type 0} (answers : H → Line → List Reply → Next → H → Ty
               (r.ending ∙ (sends.1 ∙ so.talk.ending))
               (then_read (place_of now.state.talk last) now.state.output r.mid.state settled_open
               lacks_now r.buffer r.now r.read r.reads)
-              (ap (λ (buf : BufferState). buf.is_broken) r.buffer ∙ settled_open.whole) converses_now
+              (ap (λ (buf : BufferState). buf.is_broken) r.buffer ∙ settled_open.whole)
+              converses_now
               apart r.ended r.unread (r.size ∙ so.talk.size) (r.endings ∙ so.talk.endings)
 
           pub reads_smaller : mid.state.talk.start < 2 ^ 64
