@@ -1,9 +1,8 @@
 -- The bytes of a buffer, and those after them after a read.
 use Rattle.std.proofs.Common.{◌≡◌, ℕ, ◌+◌, ◌-◌, ◌<◌, ◌≤◌, List, ◌++◌, length, get_or, take, drop}
-use Rattle.std.proofs.Common.{sym, ap, subst, ◌∙◌, arith, inl, inr}
+use Rattle.std.proofs.Common.{sym, ap, ◌∙◌, arith}
 use Rattle.std.specs.List.{slice_range}
 use Rattle.std.proofs.Math.Seq.{take-add}
-use Rattle.std.proofs.lemmas.Bool.{cases_lt}
 use Rattle.std.proofs.lemmas.List.{drop-drop, drop-take, get_or-take}
 use Rattle.std.proofs.lemmas.Slice.{between_is}
 use Rattle.ascii.proofs.ListLemmas.{length-slice_range, slice_range-at}
@@ -12,9 +11,7 @@ use Rattle.ascii_lines.specs.LineBuffer.{IsAsciiLength, IsLaidOut}
 -- a byte of a part, by its position in the whole
 at_place : (bytes : List ℕ) (s e k : ℕ) → s ≤ k → k < e
     → get_or (slice_range bytes s e) (k - s) 0 ≡ get_or bytes k 0
-at_place bytes s e k low high =
-    let same : s + (k - s) ≡ k = omega arith in
-    slice_range-at bytes s e (k - s) (omega arith) ∙ ap (λ j. get_or bytes j 0) same
+at_place bytes s e k low high = grind (arith, slice_range-at)
 
 -- ---- bytes taken from the front
 
@@ -22,15 +19,7 @@ module _ (size : ℕ) (bytes : List ℕ) (given from checked filled n : ℕ) (he
     (laid : IsLaidOut size bytes given from checked filled)
     (view : slice_range bytes from filled ≡ held) (low : n ≤ length held) where
   inside : from + n ≤ filled
-  inside = omega (
-    arith,
-    low,
-    ap length view,
-    length-slice_range bytes from filled (omega (arith, laid.then_from, laid.then_checked))
-        laid.inside,
-    laid.then_from,
-    laid.then_checked,
-  )
+  inside = grind (arith, length-slice_range)
 
   -- what is held after `n` bytes were taken
   pub held_rest : slice_range bytes (from + n) filled ≡ drop n held
@@ -43,23 +32,7 @@ module _ (size : ℕ) (bytes : List ℕ) (given from checked filled n : ℕ) (he
   -- where the bytes are after `n` were taken, of which one is not less than 128
   pub laid_after : (m : ℕ) → IsAsciiLength (slice_range bytes (from + n) filled) m
       → IsLaidOut size bytes from (from + n) (from + n + m) filled
-  laid_after m ascii =
-      let long = length-slice_range bytes (from + n) filled inside laid.inside in
-      let within : m ≤ filled - (from + n) = omega (arith, ascii.within, long) in
-      record {
-        given_first = omega arith;
-        then_from = omega arith;
-        then_checked = omega (arith, within, inside);
-        inside = laid.inside;
-        ascii = λ k after before. subst (λ x. x < 128)
-            (at_place bytes (from + n) filled k after (omega (arith, before, within, inside)))
-            (ascii.ascii (k - (from + n)) (omega (arith, after, before)));
-        other = λ less. subst (λ x. 128 ≤ x)
-            (slice_range-at bytes (from + n) filled m (omega (arith, less, within)))
-            (ascii.other (omega (arith, less, long)));
-        roomy = laid.roomy;
-        two = laid.two;
-      }
+  laid_after m ascii = grind (arith, inside, at_place, slice_range-at, length-slice_range)
 
 -- ---- a read after the bytes
 
@@ -92,39 +65,11 @@ module _ (old new : List ℕ) (filled : ℕ) (front : take filled new ≡ take f
       → IsAsciiLength (slice_range new filled (filled + n)) m
       → IsLaidOut size new given from (filled + m) (filled + n)
   refilled size given from n m laid same within ascii =
-      let long = length-slice_range new filled (filled + n) (omega arith) within in
-      let inside : m ≤ n = omega (arith, ascii.within, long) in
-      record {
-        given_first = laid.given_first;
-        then_from = omega (arith, laid.then_from);
-        then_checked = omega (arith, inside);
-        inside = within;
-        ascii = λ k low high. elim (cases_lt k filled) [
-          | inl early ↦ subst (λ x. x < 128) (sym (at_front k early)) (laid.ascii k low early)
-          | inr late ↦ subst (λ x. x < 128)
-              (at_place new filled (filled + n) k late (omega (arith, high, inside)))
-              (ascii.ascii (k - filled) (omega (arith, high, late)))
-        ];
-        other = λ less. subst (λ x. 128 ≤ x)
-            (slice_range-at new filled (filled + n) m (omega (arith, less)))
-            (ascii.other (omega (arith, less, long)));
-        roomy = omega (arith, laid.roomy, same);
-        two = omega (arith, laid.two, same);
-      }
+      grind (arith, at_front, at_place, slice_range-at, length-slice_range)
 
   -- and if one before it is not
   pub refilled_other : (size given from checked n : ℕ)
       → IsLaidOut size old given from checked filled → checked < filled
       → length new ≡ length old → filled + n ≤ length new
       → IsLaidOut size new given from checked (filled + n)
-  refilled_other size given from checked n laid other same within = record {
-    given_first = laid.given_first;
-    then_from = laid.then_from;
-    then_checked = omega (arith, laid.then_checked);
-    inside = within;
-    ascii = λ k low high. subst (λ x. x < 128)
-        (sym (at_front k (omega (arith, high, other)))) (laid.ascii k low high);
-    other = λ less. subst (λ x. 128 ≤ x) (sym (at_front checked other)) (laid.other other);
-    roomy = omega (arith, laid.roomy, same);
-    two = omega (arith, laid.two, same);
-  }
+  refilled_other size given from checked n laid other same within = grind (arith, at_front)

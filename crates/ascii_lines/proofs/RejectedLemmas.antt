@@ -14,8 +14,7 @@ use Rattle.ascii_lines.specs.declared.wanted.Wanted.TheVariants.{Line}
 -- a byte of the first of two parts
 in_front : (all text others : List ℕ) (k : ℕ) → all ≡ text ++ others → k < length text
     → get_or text k 0 ≡ get_or all k 0
-in_front all text others k parts low =
-    sym (get_or-append text others 0 k low) ∙ ap (λ xs. get_or xs k 0) (sym parts)
+in_front all text others k parts low = grind (arith, get_or-append)
 
 module _ (size i j n : ℕ) (all text : List ℕ) (is_at_end : Bool) (same : i ≡ j)
     (inside : i + 1 < length all) (cr : get_or all i 0 ≡ 13) (feed : get_or all (i + 1) 0 ≡ 10)

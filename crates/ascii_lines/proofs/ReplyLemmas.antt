@@ -17,13 +17,7 @@ use Rattle.ascii_lines.proofs.WriteBufferLemmas.{Passes-prefix, Passes-trans, Pa
 
 WritesBytes-trans : {a b c : OutputState} (xs ys : List ℕ)
     → WritesBytes a b xs → WritesBytes b c ys → WritesBytes a c (xs ++ ys)
-WritesBytes-trans {a} {b} {c} xs ys first then = record {
-  passed = Passes-trans xs ys first.passed then.passed;
-  failures = then.failures ∙ first.failures;
-  aside = then.aside ∙ first.aside;
-  stage = then.stage;
-  size = then.size ∙ first.size;
-}
+WritesBytes-trans {a} {b} {c} xs ys first then = grind (arith, Passes-trans)
 
 FailsToWrite-after : {a b c : OutputState} (xs ys : List ℕ)
     → WritesBytes a b xs → FailsToWrite b c ys → FailsToWrite a c (xs ++ ys)
@@ -37,13 +31,7 @@ FailsToWrite-after {a} {b} {c} xs ys first then = record {
 
 FailsToWrite-more : {a b : OutputState} (xs ys : List ℕ)
     → FailsToWrite a b xs → FailsToWrite a b (xs ++ ys)
-FailsToWrite-more {a} {b} xs ys fails = record {
-  passed = PassesPrefix-more xs ys fails.passed;
-  failures = fails.failures;
-  aside = fails.aside;
-  stage = fails.stage;
-  size = fails.size;
-}
+FailsToWrite-more {a} {b} xs ys fails = grind (arith, PassesPrefix-more)
 
 -- nothing was written
 SaysBytes-nil : (broken : Bool) (a : OutputState) → a.buffer.is_broken ≡ broken

@@ -114,8 +114,7 @@ stop_none awaited is over = grind arith
 -- what came by one read
 pub read_is : {a b : SourceState} (is_at_end : Bool) (read : List ℕ)
     → is_at_end ≡ (length read == 0) → ReadsOnce a b read → IsRead (supply_at is_at_end) a b read
-read_is {a} {b} true read is reads = (reads, is_none read (sym is))
-read_is {a} {b} false read is reads = (reads, is_some read (sym is))
+read_is {a} {b} is_at_end read is reads = grind (arith, is_none, is_some)
 
 -- a flush that was done
 flushed_by : {C : Type 0} (q : Bool) (a b : Writing C) (done : Unit {0})
@@ -399,18 +398,9 @@ module _ {H : Type 0} (answers : H → Line → List Reply → Next → H → Ty
         sent = b.sent;
         count = b.count;
         going = c.closed;
-        used = λ ends. elim (c.ended ends) [
-          | inl was ↦ absurd (apart (stop.EndOfInput, was))
-          | inr done ↦ (
-            done,
-            elim c.rests.1 [
-              | inl lacks ↦ absurd (subst (λ a. Lacks endings size a new.start new.held) ends lacks)
-              | inr over ↦ over.1 ends
-            ],
-          )
-        ];
-        lacks = elim c.rests.1 [ inl lacks ↦ inl lacks | inr over ↦ inr over.0 ];
-        failed = λ ends. then_right (c.failed ends) (λ was. apart (stop.Writer, was));
+        used = grind arith;
+        lacks = grind arith;
+        failed = grind arith;
       }
 
   -- a channel in the state of `mid`, of which the replies were to be sent, is then `now`
@@ -533,7 +523,8 @@ module _ {H : Type 0} (answers : H → Line → List Reply → Next → H → Ty
               (r.ending ∙ (sends.1 ∙ so.talk.ending))
               (then_read (place_of now.state.talk last) now.state.output r.mid.state settled_open
               lacks_now r.buffer r.now r.read r.reads)
-              (ap (λ (buf : BufferState). buf.is_broken) r.buffer ∙ settled_open.whole) converses_now
+              (ap (λ (buf : BufferState). buf.is_broken) r.buffer ∙ settled_open.whole)
+              converses_now
               apart r.ended r.unread (r.size ∙ so.talk.size) (r.endings ∙ so.talk.endings)
 
           pub reads_smaller : mid.state.talk.start < 2 ^ 64

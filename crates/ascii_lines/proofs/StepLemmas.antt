@@ -116,8 +116,8 @@ module _ {H : Type 0} (answers : H → Line → List Reply → Next → H → Ty
       → input.ending ≡ Absent → Turns answers refuses endings size now b steps c
       → TakesNothing steps × (c.text ≡ [])
   unended_last a b c input said steps line turn absent turns =
-      let t = subst (λ w. IsTurnAt answers refuses endings size now w a (took input said) b) line turn
-      in
+      let t = subst (λ w. IsTurnAt answers refuses endings size now w a (took input said) b) line
+      turn in
       let is = rw t.5 at t.6 in
       let completes = rw t.5 at t.7 in
       elim completes [

@@ -71,11 +71,7 @@ module _ {H : Type 0} (answers : H → Line → List Reply → Next → H → Ty
       go : (awaited : Awaited) (step : Step)
           → IsTurnAt answers refuses endings size now awaited a step b
           → (a.text ≡ step_bytes step ++ b.text) × (b.start ≡ a.start + length (step_bytes step))
-      go (Input asked) (took input said) t = rw (input_bytes t.1 t.2 input t.6) (t.9, t.10)
-      go (Input asked) (rejected error said) t = (sym t.7, omega (arith, t.8))
-      go (Input asked) (skipped bytes) t = rw (t.3, t.1) (refl, omega arith)
-      go (LineEnd then) (skipped bytes) t = (t.1, t.2)
-      go _ _ t = absurd t
+      go awaited step t = grind (arith, input_bytes, append-nil)
 
   -- steps take bytes, and go on after them
   pub Turns-bytes : (a b : Place H) (steps : List Step)
@@ -523,7 +519,7 @@ module _ {H K : Type 0} (answers : H → Line → List Reply → Next → H → 
           λ is none. absurd (some (sym (supply_ended ended) ∙ ap is_ended is) none),
         ) in
         let sound : IsSound now after text × (left_of after text < 2 * length text + 2) =
-        elim goes [ inl e ↦ rw e.0 (request, omega arith) | inr e ↦ rw e.0 (tt, omega arith) ] in (
+        grind arith in (
           rejected error gave,
           (then, what, goes, request, wants, tells, faults, refl, refl),
           rw (append-nil gave) says,
@@ -580,15 +576,8 @@ module _ {H K : Type 0} (answers : H → Line → List Reply → Next → H → 
         (place_at after handler place left) out
     turn_skips true then after place left request t =
         let low : length text ≡ length t.0 + length left = ap length t.1 ∙ length-append t.0 left in
-        let sound : IsSound now after left × (left_of after left < 2 * length text + 1) = elim t.4 [
-          | inl e ↦ rw e.0 (
-            sound_by now then left request,
-            omega (arith, left_by then left, low, e.1.some),
-          )
-          | inr (inl e) ↦ rw e.0 (request, omega (arith, low, t.3 e.0))
-          | inr (inr (inl e)) ↦ rw e.0 ((e.1, e.3), omega arith)
-          | inr (inr (inr e)) ↦ rw e.1 (tt, omega arith)
-        ] in
+        let sound : IsSound now after left × (left_of after left < 2 * length text + 1) =
+        grind (arith, sound_by, left_by) in
         (skipped t.0, (refl, t.1, t.2, inl t.4), Says-nil out, sound.0, sound.1)
     turn_skips false then after place left request t =
         (rw (t.2, t.1, t.0), refl, t.3, (t.4, t.5, t.6))

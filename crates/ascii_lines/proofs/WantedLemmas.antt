@@ -1,6 +1,6 @@
 -- Whether what is wanted is among some bytes, and why it is not given.
 use Rattle.std.proofs.Common.{◌≡◌, ◌≢◌, ℕ, ◌+◌, ◌<◌, ◌≤◌, List, Bool, length, take, arith, get_or}
-use Rattle.std.proofs.Common.{inl, inr, subst, sym, [], ◌∷◌, refl, ◌-◌}
+use Rattle.std.proofs.Common.{subst, sym, [], ◌∷◌, refl, ◌-◌}
 use Rattle.std.proofs.lemmas.List.{get_or-take}
 use Rattle.std.proofs.lemmas.Str.{IsAscii-take}
 use Rattle.std.specs.Str.{IsAscii}
@@ -101,16 +101,7 @@ module _ (wanted : Wanted) (start : ℕ) (buffer : WindowState) (part : List ℕ
 
   barred : length part < length buffer.held → length part ≢ buffer.size
       → IsOtherIn wanted buffer.size buffer.held (length part)
-  barred less other = elim usable.most [
-    | inl all ↦ absurd (omega (arith, all, less))
-    | inr (inl full) ↦ absurd (other full)
-    | inr (inr first) ↦ by wanted here first
-  ]
-    where
-      by : (wanted : Wanted) → LacksUpTo wanted buffer.held (length part)
-          → IsBarred wanted buffer.held (length part)
-          → IsOtherIn wanted buffer.size buffer.held (length part)
-      by wanted here first = grind (arith, other, usable.fits)
+  barred less other = grind (arith, here)
 
   -- it does not fit, or has a byte that it may not have
   pub rejects : length part < length buffer.held → (is_at_end : Bool) (error : LineError)

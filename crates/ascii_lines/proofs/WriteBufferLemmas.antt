@@ -1,7 +1,6 @@
 -- Bytes that were written through a buffer, one piece after another.
 use Rattle.std.proofs.Common.{◌≡◌, ℕ, List, [], ◌++◌, ap, sym, subst, ◌∙◌, append_assoc, append-nil}
-use Rattle.std.proofs.Common.{Err, Ok, OnErr, Result, Bool, true, false, ◌-◌, ◌^◌, ◌<◌, arith}
-use Rattle.std.proofs.lemmas.Bool.{false≢true}
+use Rattle.std.proofs.Common.{OnErr, Result, Bool, true, false, ◌-◌, ◌^◌, ◌<◌, arith}
 use Rattle.std.proofs.KnownBytes.{Appends-trans}
 use Rattle.ascii_devices.specs.Buffered.{AppendsBy, AppendsBytes, FinishOutcome, OutputState}
 use Rattle.ascii_devices.specs.Buffered.{SendsFront}
@@ -86,15 +85,4 @@ pub finish_fails : (a b : OutputState) (result : Result (Unit {0}) DeviceFault)
     → a.buffer.is_broken ≡ false → a.failures < 2 ^ 64 - 1
     → FinishOutcome a.buffer.is_broken a b result → OnErr result (b.buffer.is_broken ≡ true)
     → b.buffer.size ≡ a.buffer.size → b.aside ≡ a.aside → OnErr result (PutsBytes a b [])
-finish_fails a b (Ok _) ready low outcome broken size aside = tt
-finish_fails a b (Err fault) ready low outcome broken size aside =
-    let (front, count) = subst (λ p. FinishOutcome p a b (Err fault)) ready outcome in
-    record {
-      whole = λ whole. absurd (false≢true (sym whole ∙ broken));
-      broken = λ _. (
-        front_of a b [] (subst (SendsFront a b) (sym (append-nil a.buffer.bytes)) front),
-        omega (arith, low, count),
-      );
-      size = size;
-      aside = aside;
-    }
+finish_fails a b result ready low outcome broken size aside = grind (arith, front_of, append-nil)
