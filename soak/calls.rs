@@ -148,6 +148,7 @@ calls! {
     fn ask_hashes(source: &[u8]);
     fn ask_find(source: &[u8], needle: &[u8]);
     fn ask_find_character(code: u8, source: &[u8]);
+    fn ask_finder(source: &[u8], needle: &[u8], script: &[u8]);
     fn ask_splitn(n: usize, code: u8, source: &[u8], script: &[u8]);
     fn ask_replace(source: &[u8], needle: &[u8], to: &[u8]);
     fn ask_split(code: u8, source: &[u8], script: &[u8]);

@@ -1,7 +1,7 @@
 //! Searches and cuts, by std's `str`.
 
 use super::string;
-use super::walks::take_forward;
+use super::walks::{lines_of, take_forward};
 use super::{allocating, kind, long, Kind};
 use crate::asked::Asked;
 use crate::calls;
@@ -18,6 +18,12 @@ pub static KINDS: &[Kind] = &[
     kind("characters found", |random, asked| {
         let text = random.text();
         ask_find_character(random.code_of(&text), text, asked);
+    }),
+    // Texts of many lines, which are mostly longer than those that are searched by masks, and shorter ones.
+    kind("lines with a text", |random, asked| {
+        let text = if random.below(2) == 0 { random.text() } else { random.repeated(b"\r\n\nxy", 800) };
+        let (needle, script) = (random.needle(&text), random.script(3));
+        ask_finder(&string(text), &string(needle), &script, asked);
     }),
     kind("at most n pieces", |random, asked| {
         let (text, script) = (random.text(), random.script(3));
@@ -60,6 +66,18 @@ pub fn ask_find_character(code: u8, text: Vec<u8>, asked: &mut Asked) {
     calls::ask_find_character(asked, code, &text);
     let (text, on, want) = (string(text), code as char, &mut asked.want);
     want.put((text.find(on), text.rfind(on), text.split_once(on), text.rsplit_once(on)));
+}
+
+/// Asks a finder for its needle in a text, and for the lines that contain it, by a script from the front.
+pub fn ask_finder(text: &str, needle: &str, script: &[u8], asked: &mut Asked) {
+    calls::ask_finder(asked, text.as_bytes(), needle.as_bytes(), script);
+    asked.want.put((needle, text.find(needle), text.contains(needle)));
+    let mut lines = lines_of(text.as_bytes());
+    lines.retain(|line| string(line.text.to_vec()).contains(needle));
+    for number in script {
+        let line = take_forward(&mut lines, *number);
+        asked.want.put(line.map(|line| (line.ending(), line.start, line.text)));
+    }
 }
 
 /// The first pieces by a script from the front, each with what remains, which begins where the next piece does.

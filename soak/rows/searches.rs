@@ -2,8 +2,9 @@
 
 use super::small_texts::texts_of;
 use super::{Row, Rows};
+use crate::asked::NOTHING;
 use crate::calls;
-use crate::kinds::searches::{ask_find, ask_replace, ask_splitn};
+use crate::kinds::searches::{ask_find, ask_finder, ask_replace, ask_splitn};
 use crate::kinds::words::ask_retain;
 
 pub static ROWS: &[Row] = &[
@@ -23,6 +24,8 @@ pub static ROWS: &[Row] = &[
         }
     }),
     ("a_text_is_found_as_in_lower_case", folded),
+    ("lines_with_a_text", lines_with),
+    ("lines_with_a_text_at_each_position", lines_at_each_position),
     ("the_first_pieces_of_every_small_text", |rows| {
         for text in texts_of(b" \x0ba,", 5) {
             let text = String::from_utf8(text).expect("ASCII");
@@ -52,6 +55,49 @@ static PAIRS: [(&str, &str); 10] = [
     ("aaa", "aa"),
     ("abcabd", "bd"),
 ];
+
+/// A text, a needle, and the lines that contain it, each with its ending and its start.
+type LinesWith = (&'static str, &'static str, &'static [(&'static str, usize, &'static str)]);
+
+static LINES_WITH: [LinesWith; 12] = [
+    ("a\nab\r\nb", "b", &[("crlf", 2, "ab"), ("none", 6, "b")]),
+    ("ab\nab\n", "ab", &[("lf", 0, "ab"), ("lf", 3, "ab")]),
+    // The CR before an LF is not in the body, and no LF is.
+    ("a\r\na\rb\r\na\r", "\r", &[("crlf", 3, "a\rb"), ("none", 8, "a\r")]),
+    ("a\r\na\r\r\n", "a\r", &[("crlf", 3, "a\r")]),
+    ("a\nb\n", "a\nb", &[]),
+    ("a\nb\n", "\n", &[]),
+    ("xa\nbx\nxb", "a\nb", &[]),
+    ("aa\naab\n", "ab", &[("lf", 3, "aab")]),
+    // An empty needle is in each line.
+    ("\n\r\nx", "", &[("lf", 0, ""), ("crlf", 1, ""), ("none", 3, "x")]),
+    ("\r", "", &[("none", 0, "\r")]),
+    ("", "", &[]),
+    ("", "a", &[]),
+];
+
+fn lines_with(rows: &mut Rows) {
+    for (text, needle, lines) in LINES_WITH {
+        rows.ask(|asked| {
+            calls::ask_finder(asked, text.as_bytes(), needle.as_bytes(), &[0; 4]);
+            asked.want.put((needle, text.find(needle), text.contains(needle)));
+            asked.want.all(lines);
+            asked.want.times(4 - lines.len(), NOTHING);
+        });
+    }
+}
+
+/// Texts about the length up to which they are searched by masks.
+fn lines_at_each_position(rows: &mut Rows) {
+    for size in [60, 255, 256, 257, 300] {
+        for position in 0..size - 1 {
+            let mut text: Vec<u8> = b".\n......................".iter().copied().cycle().take(size).collect();
+            text[position..position + 2].copy_from_slice(b"ab");
+            let text = String::from_utf8(text).expect("ASCII");
+            rows.each(["ab", ".ab", "b\n", "\nab"], |needle, asked| ask_finder(&text, needle, &[0; 3], asked));
+        }
+    }
+}
 
 /// Every text of `a` and `b` with 4 characters is a part of it, and so is every shorter one.
 static FOURS: &str = "aaaabaabbababbbbaaa";

@@ -20,19 +20,7 @@ use Rattle.ascii_base.specs.Runs.{EndsRun, StartsRun}
 use Rattle.ascii.specs.Spans.{WithStart, items_of, piece_size, with_starts}
 use Rattle.ascii.specs.Words.{IsFirstWord, IsWord, Words}
 use Rattle.ascii.proofs.PiecesLemmas.{slice_split-joint, slice_split-some}
-use Rattle.ascii.proofs.SpansLemmas.{length-with_starts, room}
-
--- ---- items one after the other
-
-with_starts-append : {A : Type 0} (size : A → ℕ) (start : ℕ) (xs ys : List A)
-    → with_starts size start (xs ++ ys)
-    ≡ with_starts size start xs ++ with_starts size (start + room size xs) ys
-with_starts-append size start [] ys = ap (λ n. with_starts size n ys) (omega arith)
-with_starts-append {A} size start (x ∷ xs) ys =
-    let sum : start + size x + room size xs ≡ start + (size x + room size xs) = omega arith in
-    ap (λ others. record { start = start; item = x } ∷ others)
-    (with_starts-append size (start + size x) xs ys
-    ∙ ap (λ n. with_starts size (start + size x) xs ++ with_starts size n ys) sum)
+use Rattle.ascii.proofs.SpansLemmas.{length-with_starts, room, with_starts-append}
 
 room-onto_first : (x : ℕ) (ps : List (List ℕ)) → ps ≢ []
     → room piece_size (onto_first x ps) ≡ room piece_size ps + 1

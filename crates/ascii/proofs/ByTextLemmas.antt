@@ -14,11 +14,11 @@ use Rattle.ascii.specs.Spans.{WithStart, after_piece, items_of, with_starts}
 use Rattle.ascii.proofs.SpansLemmas.{items-with_starts, length-with_starts}
 
 module _ (c : ℕ) (t needle : List ℕ) (k : ℕ) where
-  later : OccursAt (c ∷ t) needle (suc k) → OccursAt t needle k
+  pub later : OccursAt (c ∷ t) needle (suc k) → OccursAt t needle k
   later occurs = let fits = occurs.fits in
       OccursAt-from_part t needle k (omega (arith, fits)) (OccursAt-part (c ∷ t) needle (suc k) occurs)
 
-  sooner : OccursAt t needle k → OccursAt (c ∷ t) needle (suc k)
+  pub sooner : OccursAt t needle k → OccursAt (c ∷ t) needle (suc k)
   sooner occurs = let fits = occurs.fits in
       OccursAt-from_part (c ∷ t) needle (suc k) (omega (arith, fits)) (OccursAt-part t needle k occurs)
 

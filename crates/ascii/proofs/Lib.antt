@@ -15,6 +15,7 @@ pub mod JsonLemmas
 pub mod LeftLemmas
 pub mod LinesByLemmas
 pub mod LinesLemmas
+pub mod LinesWithLemmas
 pub mod PiecesLemmas
 pub mod PlacedLemmas
 pub mod ReplaceLemmas

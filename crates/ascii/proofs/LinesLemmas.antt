@@ -52,7 +52,7 @@ lines_of-split_at_first t a b is free =
     ∙ lines_of_pieces-append (a ∷ []) (pieces_of 10 b) (slice_split-some _ b)
 
 -- whole lines, and what comes after them
-lines_of-behind : (a b : List ℕ) → IsEndedBy 10 a → lines_of (a ++ b) ≡ lines_of a ++ lines_of b
+pub lines_of-behind : (a b : List ℕ) → IsEndedBy 10 a → lines_of (a ++ b) ≡ lines_of a ++ lines_of b
 lines_of-behind a b (inl none) = rw none
 lines_of-behind a b (inr some) =
     rw (some.1, append_assoc, lines_of-joint some.0 b, lines_of-joint some.0 [], append-nil)

@@ -29,17 +29,20 @@ abbrev pub room : {A : Type 0} → (A → ℕ) → List A → ℕ
 room size [] = 0
 room size (item ∷ items) = size item + room size items
 
+pub with_starts-append : {A : Type 0} (size : A → ℕ) (start : ℕ) (xs ys : List A)
+    → with_starts size start (xs ++ ys)
+    ≡ with_starts size start xs ++ with_starts size (start + room size xs) ys
+with_starts-append size start [] ys = ap (λ n. with_starts size n ys) (omega arith)
+with_starts-append {A} size start (x ∷ xs) ys =
+    let sum : start + size x + room size xs ≡ start + (size x + room size xs) = omega arith in
+    ap (λ others. record { start = start; item = x } ∷ others)
+    (with_starts-append size (start + size x) xs ys
+    ∙ ap (λ n. with_starts size (start + size x) xs ++ with_starts size n ys) sum)
+
 pub with_starts-last : {A : Type 0} (size : A → ℕ) (start : ℕ) (items : List A) (item : A)
     → with_starts size start (items ++ item ∷ []) ≡ with_starts size start items ++ record
     { start = start + room size items; item = item } ∷ []
-with_starts-last size start [] item = ap (λ n. record { start = n; item = item } ∷ []) (omega arith)
-with_starts-last {A} size start (first ∷ items) item =
-    let at : ℕ → List (WithStart A) = λ n. record { start = n; item = item } ∷ [] in
-    let sum : start + size first + room size items ≡ start + (size first + room size items) =
-    omega arith in
-    ap (λ others. record { start = start; item = first } ∷ others)
-    (with_starts-last size (start + size first) items item
-    ∙ ap (λ n. with_starts size (start + size first) items ++ at n) sum)
+with_starts-last size start items item = with_starts-append size start items (item ∷ [])
 
 -- the items alone
 pub items-with_starts : {A : Type 0} (size : A → ℕ) (start : ℕ) (items : List A)
@@ -132,7 +135,7 @@ room-lines [] = refl
 room-lines (line ∷ lines) = omega
     (arith, room-lines lines, length-append (line_text line) (flat_map line_text lines))
 
-room-lines_of : (t : List ℕ) → room line_size (lines_of t) ≡ length t
+pub room-lines_of : (t : List ℕ) → room line_size (lines_of t) ≡ length t
 room-lines_of t = room-lines (lines_of t) ∙ ap length ((LinesOf-lines_of t).joined)
 
 module _ (part : WithStart (List ℕ)) where

@@ -2,10 +2,11 @@
 -- `piece_spans`, directly or by a definition over them; only private functions cite the others. The
 -- calls that make the iterators ensure that it finds the pieces or lines, and that nothing else is
 -- them.
-use Rattle.std.specs.Prelude.{◌≡◌, ℕ, ◌+◌, ◌-◌, List, [], ◌∷◌, ◌++◌, ◌⊎◌, length, take}
-use Rattle.std.specs.Prelude.{slice_index_or, cond, Bool, ◌==◌, false, Option}
+use Rattle.std.specs.Prelude.{◌≡◌, ℕ, ◌+◌, ◌-◌, ◌≤◌, List, [], ◌∷◌, ◌++◌, ◌⊎◌, length, take}
+use Rattle.std.specs.Prelude.{slice_index_or, cond, Bool, ◌==◌, false, true, Option}
 use Rattle.std.specs.Prelude.{zero, suc}
-use Rattle.std.specs.List.{All, join_with_byte, slice_split}
+use Rattle.std.specs.List.{All, filter, join_with_byte, slice_split}
+use Rattle.memchr.specs.Find.{occurs_at}
 use Rattle.ascii.specs.declared.iter.cursor.Cursor.{Cursor}
 use Rattle.ascii.specs.declared.iter.spans.Ending.TheVariants.{Lf, CrLf, Absent}
 use Rattle.ascii.specs.declared.iter.walks.End.{End}
@@ -100,6 +101,26 @@ pub record IsSplitAfterLast (on : ℕ) (part : WithStart (List ℕ)) (cut : Curs
     pub behind : cut.1.start ≡ part.start + length (text_of cut.0.view)
     pub whole : IsEndedBy on (text_of cut.0.view)
     pub free : HasNo on (text_of cut.1.view)
+
+-- `rest` is what `part` has after some whole lines, which end at `place` or before
+pub record IsAfterLines (place : ℕ) (part rest : WithStart (List ℕ)) : Type 0 where
+  pub before : List ℕ
+  pub text : part.item ≡ before ++ rest.item
+  pub start : rest.start ≡ part.start + length before
+  pub whole : IsEndedBy 10 before
+  pub short : length before ≤ place
+
+-- ---- lines that contain a text
+
+-- whether a text contains `needle`
+unfoldable pub contains_text : List ℕ → List ℕ → Bool
+contains_text needle [] = occurs_at [] needle 0
+contains_text needle (c ∷ text) =
+    cond (occurs_at (c ∷ text) needle 0) true (contains_text needle text)
+
+-- the lines of a part whose body contains `needle`
+abbrev pub lines_with : List ℕ → WithStart (List ℕ) → List (WithStart Line)
+lines_with needle part = filter (λ line. contains_text needle line.item.body) (line_spans part)
 
 -- ---- walks
 

@@ -1,6 +1,8 @@
 -- Pieces and lines with their start positions.
 use Rattle.std.specs.Prelude.{◌≡◌, ◌≢◌, ℕ, ◌+◌, ◌-◌, ◌^◌, ◌<◌, ◌≤◌, List, [], ◌∷◌, length, map}
-use Rattle.std.specs.Prelude.{Option, MatchOption}
+use Rattle.std.specs.Prelude.{Bool, Option, MatchOption}
+use Rattle.std.specs.Bool.{Decides}
+use Rattle.std.specs.List.{filter}
 use Rattle.ascii_base.specs.declared.ascii_char.AsciiChar.{AsciiChar}
 use Rattle.ascii_base.specs.Code.{code_of}
 use Rattle.ascii.specs.declared.ascii_str.AsciiStr.{AsciiStr}
@@ -60,6 +62,12 @@ OfPieceSpans view on Holds = (spans : List (WithStart (List ℕ)))
 abbrev pub OfLineSpans : AsciiStr → (List (WithStart Line) → Type 0) → Type 0
 OfLineSpans view Holds =
     (spans : List (WithStart Line)) × LineSpansOf 0 (text_of view) spans × Holds spans
+
+-- `kept` are the items of which `Is` is true, in order: what a test of `Is` keeps of them
+pub record Filters {A : Type 0} (Is : A → Type 0) (items kept : List A) : Type 0 where
+  pub test : A → Bool
+  pub decides : (item : A) → Decides (test item) (Is item)
+  pub are : kept ≡ filter test items
 
 -- the split has yet to yield the pieces of `text` at `on`, laid end to end from `start`, the only
 -- list that they are, of a length that fits a `usize`

@@ -6,14 +6,14 @@
 //! (`trim_matches`, `trim_start_matches`, `trim_end_matches`, `span`); `search` (`find`,
 //! `contains`, `starts_with`, `ends_with`, `strip_prefix`, `strip_suffix`, `count`, `position`,
 //! `first_not`, `is_all`, `rfind`, `rposition`); `folded_search` (`find_ignore_ascii_case`,
-//! `contains_ignore_ascii_case`, `strip_prefix_ignore_ascii_case`); `splits` (`split_once`,
-//! `rsplit_once`, `split_once_str`, `rsplit_once_str`, `split_at`); `iter::chars` (`chars`);
-//! `iter::split` (`split`, `split_spans`, `split_spans_from`); `iter::split_n` (`splitn`);
-//! `iter::backwards` (`rsplit`); `iter::ended` (`split_terminator`, `split_inclusive`);
-//! `iter::by_text` (`split_str`, `matches`); `iter::by_class` (`split_by`, `words`,
-//! `split_whitespace`, `runs`); `iter::lines` (`lines`, `line_spans`, `line_spans_from`); `copies`
-//! (`to_ascii_string`, `to_ascii_uppercase`, `to_ascii_lowercase`, `repeat`, `to_chars`); `replace`
-//! (`replace`); `json` (`to_json`).
+//! `contains_ignore_ascii_case`, `strip_prefix_ignore_ascii_case`); `finder` (`lines_with`);
+//! `splits` (`split_once`, `rsplit_once`, `split_once_str`, `rsplit_once_str`, `split_at`);
+//! `iter::chars` (`chars`); `iter::split` (`split`, `split_spans`, `split_spans_from`);
+//! `iter::split_n` (`splitn`); `iter::backwards` (`rsplit`); `iter::ended` (`split_terminator`,
+//! `split_inclusive`); `iter::by_text` (`split_str`, `matches`); `iter::by_class` (`split_by`,
+//! `words`, `split_whitespace`, `runs`); `iter::lines` (`lines`, `line_spans`, `line_spans_from`);
+//! `copies` (`to_ascii_string`, `to_ascii_uppercase`, `to_ascii_lowercase`, `repeat`, `to_chars`);
+//! `replace` (`replace`); `json` (`to_json`).
 
 ghost use Rattle.std.specs.Prelude.{◌≡◌, ◌-◌, ◌<◌, ◌↔◌, [], IsOkAnd, IsTrue, OnErr, Some, codes};
 ghost use Rattle.std.specs.Prelude.{length, map, slice_get, slice_index};

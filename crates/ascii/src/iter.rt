@@ -14,6 +14,7 @@
 //! | words: the longest runs outside a class | `words::<C>()`, `split_whitespace()` | `.spans()` | yes |
 //! | runs: the longest runs of a class | `runs::<C>()` | `.spans()` | yes |
 //! | lines | `lines()` | `line_spans()`, also with their endings | yes |
+//! | lines that contain a text | | `lines_with(&finder)`, also with their endings | no |
 //!
 //! A double-ended iterator yields from the front and from the back, in any order. `remainder`, or `as_str` of `chars`, returns what is left
 //! as a view, which can be iterated again:
@@ -41,6 +42,7 @@ mod split;
 mod split_n;
 mod walks;
 
+pub use crate::finder::LinesWith;
 pub use backwards::{Backwards, RSplit};
 pub use by_class::{AtClass, AtRuns, AtWords, Runs, SplitBy, Words};
 pub use by_text::{AtMatches, AtText, Matches, SplitStr};

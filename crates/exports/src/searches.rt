@@ -2,7 +2,7 @@
 
 use crate::answer::Answer;
 use crate::walks::step_forward;
-use ascii::{AsciiChar, AsciiStr};
+use ascii::{AsciiChar, AsciiStr, Finder};
 use std::alloc::Global;
 
 /// The first and the last position of a needle, and the two sides of both; whether the text contains it, starts with it
@@ -26,6 +26,17 @@ pub fn ask_find(source: AsciiStr, needle: AsciiStr, answer: &mut Answer) {
 pub fn ask_find_character(on: AsciiChar, source: AsciiStr, answer: &mut Answer) {
     answer.put((source.position(on), source.rposition(on)));
     answer.put((source.split_once(on), source.rsplit_once(on)));
+}
+
+/// The needle of a finder, its first position in a text, and whether the text contains it; and the lines that contain it by
+/// a script from the front.
+pub fn ask_finder(source: AsciiStr, needle: AsciiStr, script: &[u8], answer: &mut Answer) {
+    let finder = Finder::new(needle);
+    answer.put((finder.needle(), finder.find(source), finder.is_in(source)));
+    let mut lines = source.lines_with(&finder);
+    for number in script {
+        answer.put(step_forward(&mut lines, *number));
+    }
 }
 
 /// At most `n` pieces at a character by a script from the front, each with what remains; before them what remains at first.

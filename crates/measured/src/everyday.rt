@@ -3,7 +3,7 @@
 
 use crate::calls::{mark, mixed};
 use ascii::classes::{Blank, Hexdigit, Token};
-use ascii::{AsciiChar, AsciiStr, AsciiString, bytes};
+use ascii::{AsciiChar, AsciiStr, AsciiString, Finder, bytes};
 use ascii_formats::{AsciiStrExt, AsciiStringExt};
 use cookbook::identifiers::Identifier;
 use std::alloc::{AllocError, Global};
@@ -71,27 +71,25 @@ pub fn bench_request(source: &[u8]) -> usize {
 
 /// The lines of a text that contain another text.
 pub fn bench_grep(source: &[u8], needle: &[u8]) -> usize {
-    grep(source, needle, false)
+    let (Ok(text), Ok(needle)) = (bytes::as_ascii_str(source), bytes::as_ascii_str(needle)) else {
+        return 0;
+    };
+    let finder = Finder::new(needle);
+    let mut sum: usize = 0;
+    for line in text.lines_with(&finder) {
+        sum = mixed(sum, line.text.len());
+    }
+    sum
 }
 
 /// The lines of a text that contain another text, ignoring case.
 pub fn bench_grep_ignoring_case(source: &[u8], needle: &[u8]) -> usize {
-    grep(source, needle, true)
-}
-
-#[inline(always)]
-fn grep(source: &[u8], needle: &[u8], ignores_case: bool) -> usize {
     let (Ok(text), Ok(needle)) = (bytes::as_ascii_str(source), bytes::as_ascii_str(needle)) else {
         return 0;
     };
     let mut sum: usize = 0;
     for line in text.lines() {
-        let has_needle = if ignores_case {
-            line.contains_ignore_ascii_case(needle)
-        } else {
-            line.contains(needle)
-        };
-        if has_needle {
+        if line.contains_ignore_ascii_case(needle) {
             sum = mixed(sum, line.len());
         }
     }

@@ -63,7 +63,7 @@ impl<'a> Cursor<'a> {
 
     /// The first line, and the part after its ending.
     #[inline(always)]
-    fn first_line(self) -> Option<(LineSpan<'a>, Cursor<'a>)>
+    pub(crate) fn first_line(self) -> Option<(LineSpan<'a>, Cursor<'a>)>
         ensures lines { MatchOption result (line_spans (part_in self.entry) ≡ [])
             (λ cut. line_spans (part_in self.entry) ≡ line_in cut.0 ∷ line_spans (part_in cut.1)) }
         ensures fits { IfSome result (λ cut. EndFits cut.0.start cut.0.text) }
