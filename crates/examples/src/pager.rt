@@ -7,7 +7,7 @@ ghost use Rattle.std.specs.List.{flat_map};
 ghost use Rattle.ascii.specs.View.{text_of};
 ghost use Rattle.examples.specs.Search.{Has, IsLastWith};
 
-use ascii::{AsciiChar, AsciiStr, text};
+use ascii::{AsciiChar, AsciiStr, Finder, text};
 use std::alloc::{AllocFailed, Global};
 use std::io::{self, Read};
 
@@ -19,8 +19,8 @@ pub enum CaseMode {
 }
 
 /// Returns the index of the last line that contains the word, or `None` if there is none.
-pub fn last_with(lines: &[AsciiStr<'_>], word: AsciiStr<'_>, mode: CaseMode) -> Option<usize>
-    ensures { IsLastWith mode (text_of word.entry) lines.now result }
+pub fn last_with(lines: &[AsciiStr<'_>], word: &Finder<'_>, mode: CaseMode) -> Option<usize>
+    ensures { IsLastWith mode word.now lines.now result }
 {
     let mut index = lines.len();
     while index > 0 {
@@ -33,12 +33,12 @@ pub fn last_with(lines: &[AsciiStr<'_>], word: AsciiStr<'_>, mode: CaseMode) -> 
 }
 
 /// Returns `true` if the line contains the word, by the mode.
-pub fn has(line: AsciiStr<'_>, word: AsciiStr<'_>, mode: CaseMode) -> bool
-    ensures { IsTrue result ↔ Has mode (text_of word.entry) (text_of line.entry) }
+pub fn has(line: AsciiStr<'_>, word: &Finder<'_>, mode: CaseMode) -> bool
+    ensures { IsTrue result ↔ Has mode word.now (text_of line.entry) }
 {
     match mode {
-        CaseMode::Exact => line.contains(word),
-        CaseMode::Ignored => line.contains_ignore_ascii_case(word),
+        CaseMode::Exact => word.is_in(line),
+        CaseMode::Ignored => line.contains_ignore_ascii_case(word.needle()),
     }
 }
 
@@ -76,7 +76,7 @@ pub fn main(rt: HostRuntime) -> io::Result<()> {
         return println!(rt; "no text");
     };
     let lines: Vec<AsciiStr<'_>> = rest.lines().collect(rt.alloc())?;
-    let Some(first) = last_with(&lines, word, CaseMode::Ignored) else {
+    let Some(first) = last_with(&lines, &Finder::new(word), CaseMode::Ignored) else {
         return println!(rt; "'{word}' not found");
     };
     for line in &lines[first..] {
