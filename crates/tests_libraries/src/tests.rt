@@ -1,8 +1,10 @@
-//! What the differential test cannot ask of `ascii`: generic code at the types of a caller, the traits of std, and what errors
-//! print.
+//! What the differential test cannot ask: types of the test's own, as devices and strings in an array; generic code at such
+//! types; the traits of std; and what errors print. All other rows are those of `bin/soak`.
 
+mod devices;
 mod size_hints;
 mod strings;
+mod strings_in_the_value;
 mod traits;
 mod views;
 
