@@ -1,19 +1,21 @@
 """Shows that the prover rejects each mutation of crates/CRATE/must-fail and crates/CRATE/mutations/each_check.edit, in a few
 minutes, over the libraries as `rt ci` or `rt lib` built them; with --changed, each one whose record is stale or lacking, and
-writes its record. A round plants mutations of different functions, none of which calls another one of
-them, and checks these functions only. A mutation is rejected if the check names a goal of its own function that is open, or a
+writes its record. A mutation of the body of a free function or of an inherent method is written after its function, as a
+function of its own with the same clauses and proofs: a round has any number of these. Each other mutation takes the place of
+what it changes, one of each function in a round, and no function of the round calls one that is changed so. A round checks the
+mutated functions only. A mutation is rejected if the check names a goal of its own function that is open, or a
 proof by hand of that function that fails: it is not enough that a function that it calls is not proved. A mutation that a round
-does not reject is tried alone; so is one that waits for a function that is not proved, if the round leaves a goal open in a
-function that it did not change; and so is one that is in no function, if need be over the whole crate, where a law that is not
-proved counts. Prints a line for each mutation. Status 1: one is not rejected, or cannot be applied. JOBS (2) crates are tried
-at once."""
+does not reject is tried alone, in the place of what it changes; so is one that waits for a function that is not proved, if the
+round leaves a goal open in a function that it did not change; and so is one that is in no function, if need be over the whole
+crate, where a law that is not proved counts. Prints a line for each mutation. Status 1: one is not rejected, or cannot be
+applied. JOBS (2) crates are tried at once."""
 import os
 import re
 import shutil
 import sys
 import tempfile
 from concurrent.futures import ThreadPoolExecutor
-from dataclasses import dataclass
+from dataclasses import dataclass, field
 from pathlib import Path
 
 import libraries
@@ -22,6 +24,7 @@ from built import Built, Checks
 from edit_files import files_of, mutations_of, recorded_files
 from mutation import Crate
 from one_by_one import Mutation, functions_at, goals_in, planted, round_of
+from operators import Mutant
 
 # The line of a check that came to its end, and a line that says that a proof rests on one that failed.
 ENDED = re.compile(r"^(only=|logic=)", re.MULTILINE)
@@ -37,26 +40,54 @@ METHOD = re.compile(r"\bimpl (\w+) for (\w+)\b.*?\bfn (\w+)\(")
 class Placed(Mutation):
     """A mutation whose functions have names by which the check knows them."""
     symbols: list
+    # Its functions with their changes, if they are written beside those that they change, and the mutation in their place.
+    mutants: list = field(default_factory=list)
+    in_place: "Placed" = None
+
+    @property
+    def changed(self):
+        """The functions that it changes, whether it stands beside them or in their place."""
+        return (self.in_place or self).symbols
 
     def paths(self):
         """Its functions, each with the path of its proofs as its name."""
         return [(*it[:3], symbol.partition("::")[2].replace("::", "/")) for it, symbol in zip(self.functions, self.symbols)]
 
 
-def placed(name, changes, crate):
-    """A mutation of a crate. Fails with a reason if it cannot be applied."""
-    functions = functions_at(changes, crate.folder)
+def placed(name, changes, crate, number=0):
+    """A mutation of a crate, beside its functions if it can stand there. Fails with a reason if it cannot be applied."""
+    places = functions_at(changes, crate.folder)
     line = lambda f, at: crate.sources[f.file].count("\n", 0, at) + 1  # noqa: E731
     by_place = {(f.file, line(f, f.start), line(f, f.end), f.name): f for f in crate.functions}
-    symbols = [crate.symbol_of(by_place[it]) for it in functions]
+    functions = [by_place[it] for it in places]
+    symbols = [crate.symbol_of(it) for it in functions]
     if None in symbols:
-        raise ValueError(f"the built library has no function {functions[symbols.index(None)][3]}")
-    return Placed(name, changes, functions, symbols)
+        raise ValueError(f"the built library has no function {places[symbols.index(None)][3]}")
+    in_place = Placed(name, changes, places, symbols)
+    mutants = mutants_of(changes, crate, functions, number)
+    if not mutants:
+        return in_place
+    beside = [f"{symbol.rpartition('::')[0]}::{it.name}" for symbol, it in zip(symbols, mutants)]
+    return Placed(name, changes, [("", 0, 0, it.name) for it in mutants], beside, mutants, in_place)
+
+
+def mutants_of(changes, crate, functions, number):
+    """The changes as functions beside those that they change; none if one of them is not in a body, or in that of a method of a
+    trait, or if two are in the same."""
+    made = []
+    for function, (file, old, new) in zip(functions, changes):
+        at = crate.sources[file].index(old)
+        made.append(Mutant(function, "by hand", [(at, at + len(old), new)], old, number))
+    are_bodies = all(it.edits[0][0] > it.function.opens and not it.function.in_trait for it in made)
+    return made if are_bodies and len(changes) == len(functions) == len({id(it) for it in functions}) else []
 
 
 def are_apart(one, other, calls):
-    """Whether no function of a mutation calls one of another mutation."""
-    return not any(a in calls.get(b, ()) or b in calls.get(a, ()) for a in one.symbols for b in other.symbols)
+    """Whether no function of a mutation calls one that another mutation takes the place of, and neither takes the place of a
+    function that stands beside its mutation."""
+    if any(a in calls.get(b, ()) for m, n in ((one, other), (other, one)) for a in m.symbols for b in n.changed):
+        return False
+    return bool(one.mutants and other.mutants) or set(one.changed).isdisjoint(other.changed)
 
 
 def how_rejected(said, mutation):
@@ -110,7 +141,7 @@ def try_rounds(mutations, calls, check, tell):
             goals = "" if is_in_doubt(said, it, chosen) else how_rejected(said, it)
             tell(it.name, goals) if goals else alone.append(it)
         left = [it for it in left if it not in chosen]
-    for it in alone:
+    for it in (it.in_place or it for it in alone):
         said = check([it])
         if not it.functions and not how_rejected(said, it):
             said = check([it], whole=True)
@@ -126,13 +157,16 @@ def try_crate(settings, name, files, scratch, tell, is_chosen=lambda mutation: T
     crate.symbols = dict.fromkeys(built.symbols, "")
     for mutation, changes in (it for file in files for it in mutations_of(file.read_text(encoding="utf-8")) if is_chosen(it[0])):
         try:
-            mutations.append(placed(mutation, changes, crate))
+            mutations.append(placed(mutation, changes, crate, len(mutations)))
         except ValueError as fault:
             tell(mutation, f"cannot be applied: {fault}")
     checks = Checks(name, copy, scratch, built)
 
     def check(chosen, whole=False):
-        with planted(chosen, copy):
+        crate.write([mutant for it in chosen for mutant in it.mutants], False)
+        for it in chosen:
+            it.functions = [(*m.lines, m.name) for m in it.mutants] or functions_at(it.changes, copy)
+        with planted([it for it in chosen if not it.mutants], copy):
             return checks.check([] if whole else names_of(chosen))
 
     try_rounds(mutations, built.calls, check, tell)

@@ -450,7 +450,8 @@ class Rounds(SmallCrate):
     def setUp(self):
         super().setUp()
         self.crate.symbols = {f"small::{it}": "" for it in ("smaller", "PairShown::shown", "PairShown::double", "Pair::half")}
-        self.mutations = [placed(name, changes, self.crate) for name, changes in mutations_of(ROUNDS)]
+        self.beside = [placed(name, changes, self.crate, at) for at, (name, changes) in enumerate(mutations_of(ROUNDS))]
+        self.mutations = [it.in_place or it for it in self.beside]
 
     def told(self, said, calls={}):
         """What is told of each mutation, and the names of each check, if a check of these names says this."""
@@ -505,6 +506,31 @@ class Rounds(SmallCrate):
         self.assertTrue(are_apart(self.mutations[1], self.mutations[0], calls))
         _, checks = self.told(lambda chosen: "", calls)
         self.assertEqual(checks[:2], [["larger", "the_same"], ["half_is_one_more"]])
+
+    def test_a_change_of_a_body_stands_beside_its_function(self):
+        self.assertEqual([bool(it.mutants) for it in self.beside], [True, False, True, False])
+        self.assertEqual(names_of(self.beside[:3]), ["Pair::half_mutant2", "PairShown::double", "smaller_mutant0"])
+        said = "src/lib.rt:9:5: (`returns`)\nfn small::smaller_mutant0: not proved\nonly=1 proved=0\n"
+        self.beside[0].functions = [("src/lib.rt", 8, 12, "smaller_mutant0")]
+        self.assertEqual(how_rejected(said, self.beside[0]), "returns")
+
+    def test_what_is_in_one_round_with_a_body_beside_its_function(self):
+        smaller, double, half, _ = self.beside
+        other = placed("equal", [("src/lib.rt", "else { b }", "else { a }")], self.crate, 4)
+        self.assertTrue(are_apart(smaller, other, {}))
+        self.assertFalse(are_apart(smaller, other.in_place, {}))
+        self.assertTrue(are_apart(half, smaller, {"small::Pair::half": {"small::smaller"}}))
+        self.assertFalse(are_apart(half, double, {"small::Pair::half": {"small::PairShown::double"}}))
+
+    def test_what_is_not_rejected_beside_its_function_is_tried_in_its_place(self):
+        checks = []
+
+        def check(chosen, whole=False):
+            checks.append([bool(it.mutants) for it in chosen])
+            return ""
+
+        try_rounds(self.beside[:1], {}, check, lambda name, how: None)
+        self.assertEqual(checks, [[True], [False]])
 
     def test_what_does_not_compile(self):
         told, _ = self.told(lambda chosen: "src/lib.rt:9:5: error[syntax]: expected")
