@@ -2,6 +2,7 @@
 //! tables, exact sizes and a searcher that is made once, where that is faster than the idioms.
 
 pub use crate::everyday::by_memchr::find;
+use crate::everyday::REPLY;
 use crate::everyday::by_memchr::{lines, lines_for, split_once, trim_blanks};
 use crate::peers::{mark, mixed};
 use memchr::{memchr, memchr_iter, memmem, memrchr};
@@ -141,7 +142,7 @@ fn push_number(reply: &mut String, mut number: usize) {
 
 pub fn replies(source: &[u8], _: &[u8]) -> usize {
     (0..10usize).fold(0, |sum, number| {
-        let mut reply = String::with_capacity(64);
+        let mut reply = String::with_capacity(REPLY);
         reply.push_str("HTTP/1.1 ");
         push_number(&mut reply, 200);
         reply.push_str(" OK\r\nContent-Length: ");

@@ -7,6 +7,9 @@ use crate::best;
 use crate::peers::{mark, mixed};
 use crate::task_texts;
 
+/// The room that a reply is given, in bytes: its head is shorter.
+pub const REPLY: usize = 64;
+
 /// A task: of a text and, if the task takes one, of another text.
 type Task = fn(&[u8], &[u8]) -> usize;
 
@@ -171,7 +174,7 @@ mod by_std {
 
     pub fn replies(source: &[u8], _: &[u8]) -> usize {
         (0..10usize).fold(0, |sum, number| {
-            let mut reply = String::new();
+            let mut reply = String::with_capacity(super::REPLY);
             let pushed = push_reply(&mut reply, number.wrapping_mul(source.len()));
             mixed(sum, pushed.map_or(0, |()| black_box(&reply).len()))
         })
@@ -179,7 +182,7 @@ mod by_std {
 
     pub fn written_replies(source: &[u8], _: &[u8]) -> usize {
         (0..10usize).fold(0, |sum, number| {
-            let (mut reply, status, length) = (String::new(), 200usize, number.wrapping_mul(source.len()));
+            let (mut reply, status, length) = (String::with_capacity(super::REPLY), 200usize, number.wrapping_mul(source.len()));
             let written = write!(reply, "HTTP/1.1 {status} OK\r\nContent-Length: {length}\r\n\r\n");
             mixed(sum, written.map_or(0, |()| black_box(&reply).len()))
         })
@@ -202,11 +205,10 @@ mod by_std {
     }
 
     pub fn slug(source: &[u8], _: &[u8]) -> usize {
-        let mut slug = String::new();
-        for ch in text(source).unwrap_or_default().chars() {
-            let is_kept = ch.is_ascii_alphanumeric();
-            slug.push(if is_kept { ch.to_ascii_lowercase() } else { '-' });
-        }
+        let title = text(source).unwrap_or_default();
+        let of = |ch: char| if ch.is_ascii_alphanumeric() { ch.to_ascii_lowercase() } else { '-' };
+        let mut slug = String::with_capacity(title.len());
+        slug.extend(title.chars().map(of));
         mark(black_box(&slug).as_bytes())
     }
 
@@ -528,8 +530,9 @@ mod by_crate {
     }
 
     pub fn slug(source: &[u8], _: &[u8]) -> usize {
-        let mut slug = AsciiString::new();
-        for ch in text(source).chars() {
+        let title = text(source);
+        let mut slug = AsciiString::with_capacity(title.len());
+        for ch in title.chars() {
             let is_kept = ch.is_ascii_alphanumeric();
             slug.push(if is_kept { ch.to_ascii_lowercase() } else { AsciiChar::Minus });
         }

@@ -474,9 +474,10 @@ library is faster. Beside the fastest peer of a task stand the smallest and the 
 {behind}
 
 `bench/best.rs` finds lines with a text by one search over the whole, and in any case over a copy in lower case. It
-compares a header's name only where its colon is, and walks strict headers once, with a table. Replies and `replace`
-reserve their room at once or use `format!`, the table of numbers is one walk, a slug has its exact size, and digests are
-a fold without a branch. What each of these gives by itself was not measured.
+compares a header's name only where its colon is, and walks strict headers once, with a table. Replies write numbers
+without a format, or all by `format!`; `replace` reserves twice the text, the table of numbers is one walk, a slug is
+collected from bytes at its exact size, and digests are a fold without a branch. What each of these gives by itself was
+not measured.
 
 ![Times as fast as the Rust crate and as std](performance.svg)
 

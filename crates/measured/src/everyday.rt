@@ -9,6 +9,9 @@ use cookbook::identifiers::Identifier;
 use std::alloc::{AllocError, Global};
 use std::fmt::Write;
 
+/// The room that a reply is given, in bytes: its head is shorter.
+const REPLY: usize = 64;
+
 /// The names and values of a block of headers, and the number in the one that has the length.
 pub fn bench_headers(source: &[u8]) -> usize {
     let Ok(text) = bytes::as_ascii_str(source) else {
@@ -115,7 +118,9 @@ pub fn bench_lookup(source: &[u8], name: &[u8]) -> usize {
 pub fn bench_replies(alloc: Global, source: &[u8]) -> usize {
     let mut sum: usize = 0;
     for number in 0..10usize {
-        let mut reply = AsciiString::new(alloc);
+        let Ok(mut reply) = AsciiString::with_capacity(alloc, REPLY) else {
+            return 0;
+        };
         if push_reply(&mut reply, number.wrapping_mul(source.len())).is_err() {
             return 0;
         }
@@ -137,7 +142,9 @@ fn push_reply(reply: &mut AsciiString, length: usize) -> Result<(), AllocError> 
 pub fn bench_written_replies(alloc: Global, source: &[u8]) -> usize {
     let mut sum: usize = 0;
     for number in 0..10usize {
-        let mut reply = AsciiString::new(alloc);
+        let Ok(mut reply) = AsciiString::with_capacity(alloc, REPLY) else {
+            return 0;
+        };
         if write_reply(&mut reply, number.wrapping_mul(source.len())).is_err() {
             return 0;
         }
@@ -192,18 +199,22 @@ pub fn bench_slug(alloc: Global, source: &[u8]) -> usize {
     let Ok(text) = bytes::as_ascii_str(source) else {
         return 0;
     };
-    let mut slug = AsciiString::new(alloc);
-    for ch in text.chars() {
-        let shown = if ch.is_ascii_alphanumeric() {
-            ch.to_ascii_lowercase()
-        } else {
-            AsciiChar::Minus
-        };
-        if slug.push(shown).is_err() {
-            return 0;
-        }
+    let Ok(mut slug) = AsciiString::with_capacity(alloc, text.len()) else {
+        return 0;
+    };
+    match slug.extend_chars(text.chars().map(in_slug)) {
+        Ok(()) => mark(slug.as_ascii_str()),
+        Err(_) => 0,
     }
-    mark(slug.as_ascii_str())
+}
+
+/// The character of a slug for one of a title.
+fn in_slug(ch: AsciiChar) -> AsciiChar {
+    if ch.is_ascii_alphanumeric() {
+        ch.to_ascii_lowercase()
+    } else {
+        AsciiChar::Minus
+    }
 }
 
 /// The names and values of a settings file, with comments and empty lines.
