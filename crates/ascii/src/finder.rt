@@ -24,15 +24,11 @@ ghost use Rattle.ascii.specs.View.{text_of};
 use crate::ascii_str::AsciiStr;
 use crate::iter::LineSpan;
 use crate::iter::cursor::Cursor;
-use ascii_search::short_search::first_needle;
+use ascii_search::short_search::{SHORT, first_needle};
 use memchr::memmem;
 use std::alloc::AllocError;
 use std::iter::FusedIterator;
 use std::marker::Model;
-
-/// The largest number of bytes that `first_needle` searches by masks, which need no preparation. For
-/// a longer text it would prepare the search of `memchr` in each call.
-const SHORT: usize = 256;
 
 /// A text to search for, prepared once for any number of searches.
 ///
@@ -91,6 +87,7 @@ impl<'n> Finder<'n> {
     pub fn find(&self, text: AsciiStr<'_>) -> Option<usize>
         ensures { FindsNeedle (text_of text.entry) self.now 0 result }
     {
+        // `first_needle` would prepare a search in each longer text.
         if text.len() > SHORT {
             self.prepared.find(text.bytes)
         } else {
@@ -198,7 +195,11 @@ impl<'a> Iterator for LinesWith<'a, '_> {
     ///     lines.next() // None
     #[inline]
     fn next(&mut self) -> Option<LineSpan<'a>> {
-        let (first, others) = self.finder.first_line(self.cursor)?;
+        let Some((first, others)) = self.finder.first_line(self.cursor) else {
+            // Nothing is left, so that a further call has nothing to search.
+            self.cursor = self.cursor.from(self.cursor.view.len());
+            return None;
+        };
         self.cursor = others;
         Some(first)
     }
@@ -212,7 +213,8 @@ impl<'a> AsciiStr<'a> {
     /// `line_spans`. No body contains an LF, so a needle with an LF is in none of them; an empty
     /// needle is in each.
     ///
-    /// Constant time; a full walk searches the view once, and not line by line.
+    /// Constant time; a full walk searches the view once, and not line by line. If the needle is in
+    /// most lines, a loop over `line_spans` that asks `is_in` is faster.
     ///
     ///     let finder = Finder::new(AsciiStr::literal("b"));
     ///     let mut lines = AsciiStr::literal("a\nab\r\nb").lines_with(&finder);

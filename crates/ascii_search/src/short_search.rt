@@ -21,9 +21,9 @@ use std::simd::prelude::*;
 /// The number of positions that one mask is for: the bits of a register.
 const BLOCK: usize = 64;
 
-/// The largest number of bytes that are searched here if case matters. `memchr` prepares each search, which pays only for
+/// The largest number of bytes that `first_needle` searches by masks. `memchr` prepares each search, which pays only for
 /// longer texts: for 4 characters in 31 it took 738 instructions, and the masks 129, when this was written.
-const SHORT: usize = 256;
+pub const SHORT: usize = 256;
 
 /// Fewer positions than this are tested one by one, because a mask of so few costs more than the tests.
 const LEAST: usize = 4;
