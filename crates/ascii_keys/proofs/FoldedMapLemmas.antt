@@ -3,25 +3,32 @@ use Rattle.std.proofs.Common.{◌≡◌, ◌∙◌, ℕ, zero, suc, ◌+◌, ◌
 use Rattle.std.proofs.Common.{List, [], ◌∷◌, Equal, Greater, IfErr, IfOk, Less, Ok, Err, None}
 use Rattle.std.proofs.Common.{Ordering, Result, Some, ⊎_elim, ap, arith, get_or}
 use Rattle.std.proofs.Common.{is_eq, is_lt, is_some, length, map, refl, set, sym}
+use Rattle.std.proofs.Math.Seq.{map-set_same}
 use Rattle.std.proofs.lemmas.Bool.{cases_Bool, cases_lt, cond-false, cond-true}
 use Rattle.std.proofs.lemmas.Cmp.{alike_right, eq_by_cmp_equiv, nat_list_cmp_total, on_total}
-use Rattle.std.proofs.lemmas.List.{get_or-map, length-map}
+use Rattle.std.proofs.lemmas.Cmp.{tied_itself}
+use Rattle.std.proofs.lemmas.Grind.{common_steps}
+use Rattle.std.proofs.lemmas.List.{drop-map, get_or-map, get_or_default, length-map, length-set}
+use Rattle.std.proofs.lemmas.List.{map-append, set-get_or, take-map}
 use Rattle.std.proofs.lemmas.List.Edits.{get_or-insert_above, get_or-insert_at, get_or-insert_below}
 use Rattle.std.proofs.lemmas.List.Edits.{get_or-remove_above, get_or-remove_below, length-insert}
 use Rattle.std.proofs.lemmas.List.Edits.{length-remove}
 use Rattle.std.proofs.lemmas.List.Sorted.{searchable_from_sorted}
 use Rattle.std.proofs.lemmas.Map.{NonePasses, lookup-insert, lookup-none, lookup-remove_entry}
 use Rattle.std.proofs.lemmas.Map.{lookup-set_value}
+use Rattle.std.proofs.lemmas.Map.Entries.{lookup_from_place}
 use Rattle.std.proofs.lemmas.Map.Keys.{IsDistinct-from_apart}
 use Rattle.std.proofs.lemmas.Map.Text.{is_eq-slice_cmp}
+use Rattle.std.proofs.lemmas.Option.{slice_get-get_or}
 use Rattle.std.specs.Cmp.{IsEquivalence, IsTotalOrder}
-use Rattle.std.specs.List.{IsDistinct, insert, remove}
+use Rattle.std.specs.List.{All, IsDistinct, insert, remove}
 use Rattle.std.specs.List.Sorted.{IsBinarySearchResult, IsNonDecreasingBy, IsSearchInRange}
 use Rattle.std.specs.Map.{keys_of, lookup, remove_entry, set_value}
+use Rattle.std.specs.Option.{unwrap_or}
 use Rattle.std.specs.Ordering.{eq_by_cmp, ordering_index, ordering_reverse}
 use Rattle.ascii.specs.Case.{lower_image}
-use Rattle.ascii_keys.specs.Maps.{Changes, Entries, IsGapFor, IsInOrder, IsPlaceOf, folded_order}
-use Rattle.ascii_keys.specs.Maps.{folded_value_at, same_folded}
+use Rattle.ascii_keys.specs.Maps.{Changes, Entries, HasKeys, IsGapFor, IsInOrder, IsPlaceOf, Puts}
+use Rattle.ascii_keys.specs.Maps.{folded_order, folded_value_at, same_folded}
 
 -- ---- the order and the equality of texts
 
@@ -32,7 +39,7 @@ order_laws = on_total (map lower_image) nat_list_cmp_total
 same_is : (a b : List ℕ) → same_folded a b ≡ eq_by_cmp folded_order a b
 same_is a b = sym (is_eq-slice_cmp (map lower_image a) (map lower_image b))
 
-same_laws : IsEquivalence same_folded
+pub same_laws : IsEquivalence same_folded
 same_laws =
     let laws = eq_by_cmp_equiv order_laws in record {
       refl = λ a. same_is a a ∙ laws.refl a;
@@ -63,6 +70,14 @@ distinct (e ∷ es) ordered = IsDistinct-from_apart same_folded (keys_of (e ∷ 
     )
     (apart (get_or (e ∷ es) i e).0 (get_or (e ∷ es) j e).0 Less refl (ordered i j e below short)))
 
+-- each entry has the value of its key
+pub values_are : {V : Type 0} (entries : Entries V) → IsInOrder entries
+    → All (λ entry. folded_value_at entries entry.0 ≡ Some entry.1) entries
+values_are entries ordered = λ i d inside.
+    let e = get_or entries i d in
+    lookup_from_place same_laws entries i e.0 e.1 (distinct entries ordered)
+    (slice_get-get_or entries i d inside)
+
 -- no key of a list of entries passes a test that none of them passes
 none_passes : {V : Type 0} (test : List ℕ → Bool) (entries : Entries V)
     → ((i : ℕ) (d : List ℕ × V) → i < length entries → test (get_or entries i d).0 ≡ false)
@@ -70,6 +85,13 @@ none_passes : {V : Type 0} (test : List ℕ → Bool) (entries : Entries V)
 none_passes test [] fails = tt
 none_passes test (e ∷ es) fails =
     (fails 0 e (omega arith), none_passes test es (λ i d inside. fails (suc i) d (omega arith)))
+
+remove_none : {V : Type 0} (test : List ℕ → Bool) (entries : Entries V) → NonePasses test entries
+    → remove_entry test entries ≡ entries
+remove_none test [] none = refl
+remove_none test (e ∷ es) none =
+    cond-false (test e.0) es (e ∷ remove_entry test es) none.0
+    ∙ ap (λ rest. e ∷ rest) (remove_none test es none.1)
 
 -- ---- an edit at the first entry that passes a test
 
@@ -166,12 +188,55 @@ module _ {V : Type 0} (entries : Entries V) (ordered : IsInOrder entries) (key :
         (lookup-set_value same_laws (same_folded key) (same_laws.congr key) other value entries
         (ap is_some value_there))
 
+    pub remove_is : remove entries place ≡ remove_entry (same_folded key) entries
+    remove_is = sym (remove_first (same_folded key) entries place e first)
+
     pub remove_there : Changes same_folded (folded_value_at entries) key None
         (folded_value_at (remove entries place))
     remove_there = λ other.
-        rw (← remove_first (same_folded key) entries place e first)
+        rw remove_is
         (lookup-remove_entry same_laws (same_folded key) (same_laws.congr key) other entries
         (distinct entries ordered))
+
+    set_keys : (value : V) → keys_of (set entries place (e.0, value)) ≡ keys_of entries
+    set_keys value = map-set_same (λ e. e.0) entries place (e.0, value) e
+        (ap (λ (e : List ℕ × V). e.0) read)
+
+    pub keys_there : (value : V) → HasKeys entries key (set entries place (e.0, value))
+    keys_there value = rw value_there (set_keys value)
+
+    pub set_in_order : (value : V) → IsInOrder (set entries place (e.0, value))
+    set_in_order value = λ i j d below inside.
+        grind (arith, common_steps, ordered i j d, read)
+
+    -- the value there is the one that was put last, and another may be written in its place
+    module _ (old : Entries V) (value : V) (put : Puts old key value entries) where
+      pub value_put : e.1 ≡ value
+      value_put =
+          let there = cond-true (same_folded key key) (Some value) (folded_value_at old key)
+          (same_laws.refl key) in
+          cc (value_there, put.values key, there)
+
+      pub put_there : (written : V) → Puts old key written (set entries place (e.0, written))
+      put_there written = record {
+        values = λ other. grind (arith, common_steps, set_there written other, put.values other);
+        size = length-set entries place (e.0, written) ∙ put.size;
+        keys = rw (set_keys written) put.keys;
+      }
+
+  -- the value there is as if it had been put
+  pub put_same : (default : V)
+      → Puts entries key (unwrap_or (folded_value_at entries key) default) entries
+  put_same default =
+      let e : List ℕ × V = get_or entries place (key, default) in
+      let read : e ≡ get_or entries place e =
+      get_or_default entries place (key, default) e is.inside in
+      let same = set-get_or entries place (key, default) in
+      rw (value_there e read) record {
+        values = λ other. rw same at (set_there e read e.1 other);
+        size = rw (value_there e read) (omega arith);
+        keys = rw (value_there e read) refl;
+      }
 
   pub remove_in_order : IsInOrder (remove entries place)
   remove_in_order = λ i j d below inside.
@@ -207,6 +272,9 @@ module _ {V : Type 0} (entries : Entries V) (key : List ℕ) (place : ℕ)
   no_value = lookup-none (same_folded key) entries (absent key (same_laws.refl key))
 
   -- without a value at the key, nothing changes if it is removed
+  pub remove_absent : entries ≡ remove_entry (same_folded key) entries
+  remove_absent = sym (remove_none (same_folded key) entries (absent key (same_laws.refl key)))
+
   pub none_there : Changes same_folded (folded_value_at entries) key None (folded_value_at entries)
   none_there = λ other. ⊎_elim
       (λ yes. lookup-none (same_folded other) entries (absent other yes)
@@ -246,3 +314,22 @@ module _ {V : Type 0} (entries : Entries V) (key : List ℕ) (place : ℕ)
         is.parted.0 i d,
         above (j - 1),
       )
+
+  pub place_inserted : (value : V) → IsPlaceOf (insert entries place (key, value)) key place
+  place_inserted value = record {
+    inside = omega (arith, is.inside, length-insert entries place (key, value) is.inside);
+    equal = λ d. rw (get_or-insert_at entries place (key, value) d is.inside)
+        (tied_itself order_laws key);
+  }
+
+  pub keys_inserted : (value : V) → HasKeys entries key (insert entries place (key, value))
+  keys_inserted value = rw no_value (place, simp (map-append, take-map, drop-map))
+
+  pub put_inserted : (default : V)
+      → Puts entries key (unwrap_or (folded_value_at entries key) default)
+      (insert entries place (key, default))
+  put_inserted default = rw no_value record {
+    values = insert_there default;
+    size = rw no_value (length-insert entries place (key, default) is.inside);
+    keys = keys_inserted default;
+  }

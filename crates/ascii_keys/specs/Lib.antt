@@ -1,1 +1,2 @@
+pub mod FoldedMapLends
 pub mod Maps

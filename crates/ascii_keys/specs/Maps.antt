@@ -1,16 +1,20 @@
 -- What contracts see of a map from texts to values: a function from texts. `update` is std's word
 -- for a function that is changed at one text, `lookup` for the first entry whose key passes a test.
+use Rattle.std.specs.Borrow.{Bor}
 use Rattle.std.specs.BTreeMap.{btree_map_len, get_by_text}
 use Rattle.std.specs.Cmp.Lexicographic.{slice_cmp}
-use Rattle.std.specs.List.{HoldsAt}
+use Rattle.std.specs.List.{All, HoldsAt, insert}
 use Rattle.std.specs.List.Sorted.{IsPartitionPoint}
-use Rattle.std.specs.Map.{lookup, update}
+use Rattle.std.specs.Map.{keys_of, lookup, update}
 use Rattle.std.specs.Ordering.{nat_cmp, on}
-use Rattle.std.specs.Prelude.{◌≡◌, ℕ, ◌<◌, ◌≤◌, Bool, List, Option, length, map, slice_index_or}
+use Rattle.std.specs.Prelude.{◌≡◌, ℕ, ◌+◌, ◌<◌, ◌≤◌, Bool, List, MatchOption, Option, Some}
+use Rattle.std.specs.Prelude.{cond, is_some, length, map, slice_index_or}
 use Rattle.std.specs.Str.{bytes_eq}
 use Rattle.std.specs.declared.cmp.Ordering.{Ordering}
 use Rattle.std.specs.declared.cmp.Ordering.TheVariants.{Equal, Greater, Less}
 use Rattle.ascii.specs.Case.{lower_image}
+use Rattle.ascii.specs.View.{text_of}
+use Rattle.ascii.specs.declared.ascii_str.AsciiStr.{AsciiStr}
 use Rattle.ascii_keys.specs.declared.maps.AsciiMap.{AsciiMap}
 
 -- a value at each text, or `None` if there is none
@@ -45,6 +49,10 @@ HasSame old new =
 abbrev pub Entries : Type 0 → Type 0
 Entries V = List (List ℕ × V)
 
+-- the entry that a walk yields as a view of its key and a reference to its value
+abbrev pub entry_of : {V : Type 0} → AsciiStr × Bor V → List ℕ × V
+entry_of entry = (text_of entry.0, entry.1.now)
+
 -- whether two texts are equal, ignoring ASCII case
 abbrev pub same_folded : List ℕ → List ℕ → Bool
 same_folded = on (map lower_image) bytes_eq
@@ -57,10 +65,30 @@ folded_order = on (map lower_image) (slice_cmp nat_cmp)
 abbrev pub folded_value_at : {V : Type 0} → Entries V → Values V
 folded_value_at entries key = lookup (same_folded key) entries
 
+-- the texts of `new` are those of `old`, each as it is written there. If `key` is not among them,
+-- ignoring ASCII case, it is one more
+abbrev pub HasKeys : {V : Type 0} → Entries V → List ℕ → Entries V → Type 0
+HasKeys old key new = MatchOption (folded_value_at old key)
+    ((place : ℕ) × (keys_of new ≡ insert (keys_of old) place key)) (λ _. keys_of new ≡ keys_of old)
+
+-- the entries `new` are `old`, except that they have `value` at `key`, ignoring ASCII case
+pub record Puts {V : Type 0} (old : Entries V) (key : List ℕ) (value : V) (new : Entries V) : Type 0
+  where
+    pub values : Changes same_folded (folded_value_at old) key (Some value) (folded_value_at new)
+    pub size : length new ≡ length old + cond (is_some (folded_value_at old key)) 0 1
+    pub keys : HasKeys old key new
+
 -- the texts of `entries` ascend in lower case, so no two are equal
 abbrev pub IsInOrder : {V : Type 0} → Entries V → Type 0
 IsInOrder {V} entries = (i j : ℕ) (d : List ℕ × V) → i < j → j < length entries
     → folded_order (slice_index_or entries i d).0 (slice_index_or entries j d).0 ≡ Less
+
+-- `iterator` has yet to yield the entries of `map`, whose keys ascend in lower case, and each has
+-- the value of its key
+pub record WalksInOrder {V : Type 0} (map iterator : Entries V) : Type 0 where
+  pub entries : iterator ≡ map
+  pub ordered : IsInOrder map
+  pub values : All (λ entry. folded_value_at map entry.0 ≡ Some entry.1) map
 
 -- ---- only private calls cite the following
 

@@ -15,7 +15,9 @@
 #![tactic(auto)]
 
 mod folded;
+mod map_iter;
 mod maps;
 
 pub use folded::{Folded, FoldedStr, FoldedString};
+pub use map_iter::FoldedMapIter;
 pub use maps::{AsciiMap, FoldedMap};

@@ -12,8 +12,8 @@
 //!
 //! No map hashes, so no choice of keys makes a look-up slow: it compares O(log n) keys of n.
 //!
-//! A contract sees a map as a function from texts to values (`value_at`, `folded_value_at`). A
-//! look-up does not allocate.
+//! A contract sees a map as a function from texts to values (`value_at`, `folded_value_at`), and a
+//! `FoldedMap` also as the list of its entries. A look-up does not allocate.
 
 ghost use Rattle.std.specs.Prelude.{◌≡◌, ◌+◌, ◌↔◌, ℕ, List, None, Some, IfOk, IsTrue, OnErr, OnOk};
 ghost use Rattle.std.specs.Prelude.{if◌then◌else◌, is_some};
@@ -21,6 +21,7 @@ ghost use Rattle.std.specs.Option.{option_copied};
 ghost use Rattle.ascii.specs.View.{text_of};
 
 use crate::folded::{FoldedStr, FoldedString};
+use crate::map_iter::FoldedMapIter;
 use ascii::AsciiStr;
 use std::alloc::{AllocError, Global};
 use std::cmp::Ordering;
@@ -155,8 +156,12 @@ impl<V> Model for FoldedMap<V> {
 
 impl<V: Drop> FoldedMap<V> {
     ghost use Rattle.std.specs.Prelude.{[], ◌<◌, IfErr, All, length};
-    ghost use Rattle.ascii_keys.specs.Maps.{Changes, folded_value_at, same_folded};
-    ghost use Rattle.ascii_keys.specs.Maps.{IsGapFor, IsPlaceOf, folded_order};
+    ghost use Rattle.std.specs.Borrow.{sem};
+    ghost use Rattle.std.specs.Map.{remove_entry};
+    ghost use Rattle.std.specs.Option.{unwrap_or};
+    ghost use Rattle.ascii_keys.specs.FoldedMapLends.{lends_put};
+    ghost use Rattle.ascii_keys.specs.Maps.{Changes, HasKeys, Puts, folded_value_at, same_folded};
+    ghost use Rattle.ascii_keys.specs.Maps.{IsGapFor, IsPlaceOf, WalksInOrder, folded_order};
 
     /// Creates an empty map. Does not allocate.
     ///
@@ -198,6 +203,7 @@ impl<V: Drop> FoldedMap<V> {
             (text_of key.entry) (Some value) (folded_value_at self.new)) }
         ensures size { IfOk result (λ before.
             length self.new ≡ length self.old + (if is_some before then 0 else 1)) }
+        ensures keys { OnOk result (HasKeys self.old (text_of key.entry) self.new) }
         ensures unchanged { OnErr result (self.new ≡ self.old) }
     {
         match self.place_of(key) {
@@ -206,6 +212,42 @@ impl<V: Drop> FoldedMap<V> {
                 let key = FoldedStr::new(key).to_folded_string(self.alloc)?;
                 self.entries.insert(place, (key, value))?;
                 Ok(None)
+            }
+        }
+    }
+
+    /// Returns a mutable reference to the value at `key`, ignoring ASCII case. If there is none,
+    /// puts `default` there first. Fails only if an allocation fails; the map is then unchanged.
+    ///
+    /// If the key is there, nothing is copied or allocated. Otherwise copies the key.
+    ///
+    ///     let mut counts = FoldedMap::new(alloc);
+    ///     *counts.get_or_insert(AsciiStr::literal("The"), 0)? += 1;
+    ///     *counts.get_or_insert(AsciiStr::literal("the"), 0)? += 1;
+    ///     *counts.get_or_insert(AsciiStr::literal("THE"), 7)? // 2
+    ///     *counts.get_or_insert(AsciiStr::literal("then"), 7)? // 7
+    pub fn get_or_insert(&mut self, key: AsciiStr<'_>, default: V) -> Result<&mut V, AllocError>
+        ensures* writes_back { sem 𝓛 (lends_put V.row self.entry (text_of key.entry) result) }
+        ensures value { IfOk result (λ value.
+            value.now ≡ unwrap_or (folded_value_at self.old (text_of key.entry)) default) }
+    {
+        let place = self.put_if_absent(key, default)?;
+        Ok(&mut self.entries[place].1)
+    }
+
+    /// Puts `default` at `key` if there is no value. Returns the place of the entry.
+    fn put_if_absent(&mut self, key: AsciiStr<'_>, default: V) -> Result<usize, AllocError>
+        ensures put { IfOk result (λ place. IsPlaceOf self.new (text_of key.entry) place
+            × Puts self.old (text_of key.entry)
+            (unwrap_or (folded_value_at self.old (text_of key.entry)) default) self.new) }
+        ensures unchanged { OnErr result (self.new ≡ self.old) }
+    {
+        match self.place_of(key) {
+            Ok(place) => Ok(place),
+            Err(place) => {
+                let key = FoldedStr::new(key).to_folded_string(self.alloc)?;
+                self.entries.insert(place, (key, default))?;
+                Ok(place)
             }
         }
     }
@@ -222,6 +264,7 @@ impl<V: Drop> FoldedMap<V> {
         ensures size { length self.new + (if is_some result then 1 else 0) ≡ length self.old }
         ensures removes { Changes same_folded (folded_value_at self.old) (text_of key.entry) None
             (folded_value_at self.new) }
+        ensures entries { self.new ≡ remove_entry (same_folded (text_of key.entry)) self.old }
     {
         match self.place_of(key) {
             Ok(place) => Some(self.entries.remove(place).1),
@@ -250,6 +293,20 @@ impl<V: Drop> FoldedMap<V> {
         ensures { IsTrue result ↔ (self.now ≡ []) }
     {
         self.entries.is_empty()
+    }
+
+    /// Returns an iterator over the keys and their values, in the order of the keys in lower case.
+    /// Does not allocate.
+    ///
+    ///     let mut headers = FoldedMap::new(alloc);
+    ///     headers.insert(AsciiStr::literal("b"), 1)?;
+    ///     headers.insert(AsciiStr::literal("A"), 2)?;
+    ///     headers.iter().next() // Some(("A", 2))
+    ///     FoldedMap::<u8>::new(alloc).iter().next() // None
+    pub fn iter(&self) -> FoldedMapIter<'_, V>
+        ensures { WalksInOrder self.now result }
+    {
+        FoldedMapIter::new(self.entries.as_slice())
     }
 
     /// Returns the place of the entry at `key`, or the place where its entry would be.

@@ -1,7 +1,7 @@
 use Rattle.std.proofs.Common.{sym}
 use Rattle.ascii.specs.View.{text_of}
-use Rattle.ascii_keys.proofs.FoldedMapLemmas.{insert_in_order, insert_there, no_value, set_there}
-use Rattle.ascii_keys.proofs.FoldedMapLemmas.{value_there}
+use Rattle.ascii_keys.proofs.FoldedMapLemmas.{insert_in_order, insert_there, keys_inserted}
+use Rattle.ascii_keys.proofs.FoldedMapLemmas.{keys_there, no_value, set_there, value_there}
 use Rattle.ascii_keys.proofs.maps.FoldedMap.insert.Goals as goal
 
 pub invariant_of-self-in-Err : goal.invariant_of-self-in-Err
@@ -22,6 +22,12 @@ returns-in-Ok-clause-puts over c = rw (← c.self.view_is, c.replace.ensures.aft
     (rw c.self.view_is c.in-Ok.ensures.found) c.index_mut.result.now c.index_mut.ensures.value
     c.args.value)
 
+pub returns-in-Ok-clause-keys : goal.returns-in-Ok-clause-keys
+returns-in-Ok-clause-keys over c = rw (← c.self.view_is, c.replace.ensures.after)
+    (keys_there c.self.inside.entries.items c.self.invariant (text_of c.args.key) c.in-Ok.place
+    (rw c.self.view_is c.in-Ok.ensures.found) c.index_mut.result.now c.index_mut.ensures.value
+    c.args.value)
+
 pub returns-in_ok-insert-in-Err-clause-before : goal.returns-in_ok-insert-in-Err-clause-before
 returns-in_ok-insert-in-Err-clause-before over c =
     sym (no_value c.args.self.now (text_of c.args.key) _ c.in-Err.ensures.absent)
@@ -34,4 +40,14 @@ returns-in_ok-insert-in-Err-clause-puts over c =
       c.new.ensures,
       c.self.view_is,
     ) (insert_there
+    c.args.self.now (text_of c.args.key) c.in-Err.place c.in-Err.ensures.absent c.args.value)
+
+pub returns-in_ok-insert-in-Err-clause-keys : goal.returns-in_ok-insert-in-Err-clause-keys
+returns-in_ok-insert-in-Err-clause-keys over c =
+    rw (
+      c.in_ok-insert-in-Err.ensures.items,
+      c.in_ok-key-in-Err.ensures,
+      c.new.ensures,
+      c.self.view_is,
+    ) (keys_inserted
     c.args.self.now (text_of c.args.key) c.in-Err.place c.in-Err.ensures.absent c.args.value)

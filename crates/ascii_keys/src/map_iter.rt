@@ -1,0 +1,58 @@
+//! The entries of a map, in the order of its keys.
+
+ghost use Rattle.std.specs.Iterator.{item_count};
+ghost use Rattle.std.specs.Map.Iter.{TakesFirst};
+ghost use Rattle.std.specs.Prelude.{◌≡◌};
+ghost use Rattle.ascii_keys.specs.Maps.{entry_of};
+
+use crate::folded::FoldedString;
+use ascii::AsciiStr;
+use std::marker::Model;
+use std::slice;
+
+/// An iterator over the entries of a `FoldedMap`: each key as it was first written, and its value.
+#[derive(Drop)]
+pub struct FoldedMapIter<'a, V> {
+    entries: slice::Iter<'a, (FoldedString, V)>,
+}
+
+impl<'a, V> Model for FoldedMapIter<'a, V> {
+    ghost use Rattle.std.specs.Slice.Iter.{iter_rest};
+    ghost use Rattle.ascii_keys.specs.Maps.{Entries};
+
+    ghost Value = { Entries V };
+
+    ghost view = { λ iter. iter_rest iter.entries };
+}
+
+impl<'a, V> FoldedMapIter<'a, V> {
+    /// Returns an iterator over these entries.
+    pub(crate) fn new(entries: &'a [(FoldedString, V)]) -> Self
+        ensures { result ≡ entries.now }
+    {
+        FoldedMapIter {
+            entries: entries.iter(),
+        }
+    }
+}
+
+impl<'a, V> Iterator for FoldedMapIter<'a, V> {
+    type Item = (AsciiStr<'a>, &'a V);
+
+    ghost next_gives = { TakesFirst entry_of };
+
+    ghost remaining = { item_count (λ entries. entries) };
+
+    /// Returns the next key, as it was first written, and its value, or `None` if there are none
+    /// left; it then keeps returning `None`.
+    ///
+    ///     let mut headers = FoldedMap::new(alloc);
+    ///     headers.insert(AsciiStr::literal("Host"), 1)?;
+    ///     let mut entries = headers.iter();
+    ///     entries.next() // Some(("Host", 1))
+    ///     entries.next() // None
+    fn next(&mut self) -> Option<(AsciiStr<'a>, &'a V)> {
+        let (key, value) = self.entries.next()?;
+        Some((key.as_folded().into_inner(), value))
+    }
+}
