@@ -225,7 +225,7 @@ FILTER = [
     Call("an output that is full", ["copy", "text", "none"], b"", 3, b"", FULL, "full"),
 ]
 
-OF_EXAMPLES = b"usage: examples events|head|host|ini|keys|lines|nmea|pager|register\n"
+OF_EXAMPLES = b"usage: examples events|head|host|ini|keys|lines|nmea|pager|register|tally\n"
 LINES_OF_A_REGISTER = b"GET\nhello\r\nGET\nno\377ascii\nGET\nQUIT\nGET\n"
 REPLIES_OF_A_REGISTER = b"\nOK\nhello\nBAD\nhello\nBYE\n"
 HEAD = b"GET /a?b HTTP/1.1\r\nHost: a.example\r\nACCEPT:  */* \r\n\r\nbody"
@@ -257,6 +257,9 @@ EXAMPLES = [
     Call("register", ["register"], LINES_OF_A_REGISTER, 0, REPLIES_OF_A_REGISTER, b"Closed\n"),
     Call("events", ["events"], LINES_OF_A_REGISTER, 0, REPLIES_OF_A_REGISTER, b"Some(Closed)\n"),
     Call("events to the end of the input", ["events"], b"a\nGET", 0, b"OK\na\n", b"Some(EndOfInput)\n"),
+    Call("tally", ["tally"], b"To be, or not\tto BE,\n[to] TO\n", 0, b"1 [to]\n2 be,\n1 not\n1 or\n3 to\n"),
+    Call("tally of no word", ["tally"], b" \n", 0, b""),
+    Call("tally of a byte above 127", ["tally"], b"z\303\244\n", 0, b"the byte at index 1 is not ASCII\n"),
     Call("an input that is not valid UTF-8", ["host"], b"\377\n", 1, b"", ANY),
     Call("no name", [], b"", 64, b"", OF_EXAMPLES),
     Call("an unknown name", ["key"], b"", 64, b"", OF_EXAMPLES),

@@ -4,3 +4,4 @@ pub mod Reading
 pub mod Register
 pub mod Search
 pub mod Sentence
+pub mod Tally

@@ -10,6 +10,7 @@ mod lines;
 mod nmea;
 mod pager;
 mod register;
+mod tally;
 
 use std::env::Env;
 use std::io;
@@ -29,8 +30,11 @@ fn main(rt: HostRuntime) -> io::Result<ExitCode> {
         b"nmea" => nmea::main(rt)?,
         b"pager" => pager::main(rt)?,
         b"register" => register::main(rt)?,
+        b"tally" => tally::main(rt)?,
         _ => {
-            eprintln!(rt; "usage: examples events|head|host|ini|keys|lines|nmea|pager|register")?;
+            eprintln!(rt;
+                "usage: examples events|head|host|ini|keys|lines|nmea|pager|register|tally"
+            )?;
             return Ok(ExitCode::from(64));
         }
     }
