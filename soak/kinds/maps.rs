@@ -21,11 +21,14 @@ pub static KINDS: &[Kind] = &[
 /// A map of std with texts as keys.
 type Map = BTreeMap<Vec<u8>, usize>;
 
+/// A map of std with texts in lower case as keys. It has each key as it was first written, and its value.
+type FoldedMap = BTreeMap<Vec<u8>, (Vec<u8>, usize)>;
+
 /// Steps with keys that often are those of other steps, in another case.
 fn steps(random: &mut Random) -> Steps {
     let mut steps = Steps::default();
     let mut key = random.short_text();
-    for (at, kind) in random.script(4).into_iter().enumerate() {
+    for (at, kind) in random.script(6).into_iter().enumerate() {
         match random.below(3) {
             0 => key = random.other(&key),
             1 => key = random.short_text(),
@@ -36,7 +39,7 @@ fn steps(random: &mut Random) -> Steps {
     steps
 }
 
-/// A map with keys as they are, and one with keys in lower case.
+/// A map with keys as they are, and one that ignores their case.
 pub fn ask_maps(texts: &[u8], steps: &[Step], asked: &mut Asked) {
     calls::ask_maps(asked, texts, steps);
     let needs = put_steps(texts, steps, usize::MAX, &mut asked.want);
@@ -50,18 +53,20 @@ pub fn ask_maps(texts: &[u8], steps: &[Step], asked: &mut Asked) {
 /// What the steps over both maps return if the allocation for the insertion numbered `failing` fails. Returns what each
 /// insertion needs.
 fn put_steps(texts: &[u8], steps: &[Step], failing: usize, want: &mut Answer) -> Vec<Needs> {
-    let (mut map, mut folded, mut needs) = (Map::new(), Map::new(), Vec::new());
+    let (mut map, mut folded, mut needs) = (Map::new(), FoldedMap::new(), Vec::new());
     for step in steps {
         let key = &texts[step.start..step.end];
-        let lower = key.to_ascii_lowercase();
         // A map that knows the case copies each key, and one that ignores it only a new key. There may be room for a
         // key that is empty.
         let copy = if key.is_empty() { Needs::Perhaps } else { Needs::Memory };
-        let folded_copy = if folded.contains_key(&lower) { Needs::Nothing } else { copy };
+        let folded_copy = if folded.contains_key(&key.to_ascii_lowercase()) { Needs::Nothing } else { copy };
         put_step(&mut map, *step, key.to_vec(), needs.len() == failing, want);
-        put_step(&mut folded, *step, lower, needs.len() + 1 == failing, want);
         if step.kind == 0 {
-            needs.extend([copy, folded_copy]);
+            needs.push(copy);
+        }
+        put_folded_step(&mut folded, *step, key, needs.len() == failing, want);
+        if matches!(step.kind, 0 | 3) {
+            needs.push(folded_copy);
         }
     }
     needs
@@ -74,6 +79,29 @@ fn put_step(map: &mut Map, step: Step, key: Vec<u8>, fails: bool, want: &mut Ans
         1 => want.put(map.get(&key).copied()),
         2 => want.put(map.remove(&key)),
         _ => want.put(map.contains_key(&key)),
+    }
+    want.put((map.len(), map.is_empty()));
+}
+
+fn put_folded_step(map: &mut FoldedMap, step: Step, key: &[u8], fails: bool, want: &mut Answer) {
+    let lower = key.to_ascii_lowercase();
+    let old = map.get(&lower).map(|entry| entry.1);
+    let mut put = |value| map.entry(lower.clone()).or_insert((key.to_vec(), 0)).1 = value;
+    match step.kind {
+        0 | 3 if fails => want.put(Failed),
+        0 => {
+            put(step.at);
+            want.put(old);
+        }
+        1 => want.put(old),
+        2 => want.put(map.remove(&lower).map(|entry| entry.1)),
+        3 => {
+            let value = old.unwrap_or(step.at).wrapping_add(step.at);
+            put(value);
+            want.put(value);
+        }
+        4 => want.all(map.values()),
+        _ => want.put(map.contains_key(&lower)),
     }
     want.put((map.len(), map.is_empty()));
 }

@@ -15,16 +15,24 @@ pub static ROWS: &[Row] = &[
         });
         ask(rows, &inserted.chain(taken).collect::<Vec<_>>());
     }),
+    ("a_walk_yields_each_key_as_it_was_first_written", |rows| {
+        let added = NAMES.iter().map(|name| (ADD, *name));
+        let walked = NAMES.iter().flat_map(|name| [(WALK, ""), (REMOVE, *name)]);
+        ask(rows, &added.chain(walked).collect::<Vec<_>>());
+    }),
     ("many_keys_have_their_values", |rows| {
         let keys: Vec<String> = (0..5_000).map(|number| number.to_string()).collect();
-        let steps: Vec<(u8, &str)> = keys.iter().flat_map(|key| [(INSERT, key.as_str()), (GET, key)]).collect();
+        let steps: Vec<(u8, &str)> =
+            keys.iter().flat_map(|key| [(INSERT, key.as_str()), (GET, key), (ADD, key)]).collect();
         let Steps { texts, steps } = passed(&steps);
         rows.ask(|asked| {
             calls::ask_maps(asked, &texts, &steps);
             let want = &mut asked.want;
             for number in 0..keys.len() {
                 want.times(2, (NOTHING, number + 1, false));
-                want.times(2, (2 * number, number + 1, false));
+                want.times(2, (3 * number, number + 1, false));
+                want.put((true, number + 1, false));
+                want.put((6 * number + 2, number + 1, false));
             }
             want.has_other_failures = true;
         });
@@ -44,7 +52,9 @@ pub static ROWS: &[Row] = &[
 const INSERT: u8 = 0;
 const GET: u8 = 1;
 const REMOVE: u8 = 2;
-const HAS: u8 = 3;
+const ADD: u8 = 3;
+const WALK: u8 = 4;
+const HAS: u8 = 5;
 
 /// Steps as they are passed: their keys, one after the other, and each with its number.
 fn passed(steps: &[(u8, &str)]) -> Steps {

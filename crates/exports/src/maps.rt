@@ -9,7 +9,7 @@ use std::collections::{BTreeMap, HashMap};
 
 /// What steps over a map return, each with the length of the map: 0 inserts the number at the step's text, 1 gets, 2 removes,
 /// and any other kind looks whether the key is there. First of a map in which keys differ by case, and then of one that
-/// ignores case.
+/// ignores case. In that one 3 puts the number if there is none, and adds it to the one there; 4 yields all entries.
 pub fn ask_maps(alloc: Global, texts: AsciiStr, steps: &[Step], answer: &mut Answer) {
     let (mut map, mut folded) = (AsciiMap::new(alloc), FoldedMap::new(alloc));
     for step in steps {
@@ -33,6 +33,18 @@ fn put_folded_step(map: &mut FoldedMap<usize>, step: Step, key: AsciiStr, answer
         0 => answer.put_result(map.insert(key, step.at)),
         1 => answer.put(map.get(key).copied()),
         2 => answer.put(map.remove(key)),
+        3 => match map.get_or_insert(key, step.at) {
+            Ok(value) => {
+                *value = value.wrapping_add(step.at);
+                answer.put(*value);
+            }
+            Err(error) => answer.put(error),
+        },
+        4 => {
+            for (key, value) in map.iter() {
+                answer.put((key, *value));
+            }
+        }
         _ => answer.put(map.get(key).is_some()),
     }
     answer.put((map.len(), map.is_empty()));
