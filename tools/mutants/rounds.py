@@ -55,7 +55,7 @@ class Placed(Mutation):
 
 
 def placed(name, changes, crate, number=0):
-    """A mutation of a crate, beside its functions if it can stand there. Fails with a reason if it cannot be applied."""
+    """A mutation of a crate, beside its functions if that can be. Fails with a reason if it cannot be applied."""
     places = functions_at(changes, crate.folder)
     line = lambda f, at: crate.sources[f.file].count("\n", 0, at) + 1  # noqa: E731
     by_place = {(f.file, line(f, f.start), line(f, f.end), f.name): f for f in crate.functions}
