@@ -44,8 +44,7 @@ same_laws =
     let laws = eq_by_cmp_equiv order_laws in record {
       refl = λ a. same_is a a ∙ laws.refl a;
       symm = λ a b. same_is a b ∙ (laws.symm a b ∙ sym (same_is b a));
-      congr = λ a b c equal. same_is a c
-          ∙ (laws.congr a b c (sym (same_is a b) ∙ equal) ∙ sym (same_is b c));
+      congr = λ a b c equal. grind (arith, same_is, equal);
     }
 
 -- texts of this order are not equal, and those that are equal have the order `Equal`
@@ -59,8 +58,7 @@ equal a b ordered = same_is a b ∙ ap is_eq ordered
 -- no two keys in order are equal
 distinct : {V : Type 0} (entries : Entries V) → IsInOrder entries
     → IsDistinct same_folded (keys_of entries)
-distinct [] ordered =
-    IsDistinct-from_apart same_folded [] (λ i j d below inside. absurd (omega arith))
+distinct [] ordered = grind (arith, IsDistinct-from_apart)
 distinct (e ∷ es) ordered = IsDistinct-from_apart same_folded (keys_of (e ∷ es))
     (λ i j d below inside.
     let short : j < length (e ∷ es) = omega (arith, inside, length-map (e ∷ es) (λ e. e.0)) in
@@ -141,19 +139,15 @@ module _ {V : Type 0} (test : List ℕ → Bool) where
 
 module _ {V : Type 0} (entries : Entries V) (ordered : IsInOrder entries) (key : List ℕ) where
   rises : IsNonDecreasingBy (λ e. ordering_index (folded_order e.0 key)) entries
-  rises = searchable_from_sorted order_laws (λ e. e.0) entries key (λ k d low inside.
-      let back = order_laws.antisymm (get_or entries (k + 1) d).0 (get_or entries k d).0 in
-      ap is_lt (back ∙ ap ordering_reverse (ordered k (k + 1) d (omega arith) inside)))
+  rises = grind (arith, searchable_from_sorted, order_laws, is_lt)
 
   pub place_found : (r : Result ℕ ℕ) → IsSearchInRange r (length entries)
       → IsBinarySearchResult (λ e. folded_order e.0 key) entries r → IfOk r (IsPlaceOf entries key)
-  place_found (Ok place) inside found = record { inside = inside; equal = found }
-  place_found (Err place) inside found = tt
+  place_found r inside found = grind (arith, equal)
 
   pub gap_found : (r : Result ℕ ℕ) → IsSearchInRange r (length entries)
       → IsBinarySearchResult (λ e. folded_order e.0 key) entries r → IfErr r (IsGapFor entries key)
-  gap_found (Ok place) inside found = tt
-  gap_found (Err place) inside found = record { inside = inside; parted = found rises }
+  gap_found r inside found = grind (arith, rises)
 
 -- ---- at the place of a key
 
@@ -175,8 +169,7 @@ module _ {V : Type 0} (entries : Entries V) (ordered : IsInOrder entries) (key :
 
   module _ (e : List ℕ × V) (read : e ≡ get_or entries place e) where
     pub value_there : folded_value_at entries key ≡ Some e.1
-    value_there = value_first (same_folded key) entries place e first
-        ∙ ap (λ (e : List ℕ × V). Some e.1) (sym read)
+    value_there = grind (arith, value_first, first)
 
     pub set_there : (value : V) → Changes same_folded (folded_value_at entries) key (Some value)
         (folded_value_at (set entries place (e.0, value)))
@@ -239,23 +232,7 @@ module _ {V : Type 0} (entries : Entries V) (ordered : IsInOrder entries) (key :
       }
 
   pub remove_in_order : IsInOrder (remove entries place)
-  remove_in_order = λ i j d below inside.
-      let long = length-remove entries place is.inside in
-      let low = λ (k : ℕ) (under : k < place).
-      get_or-remove_below entries place d k under is.inside in
-      let high = λ (k : ℕ) (over : place ≤ k).
-      get_or-remove_above entries place d k over is.inside in
-      grind (
-        arith,
-        long,
-        low i,
-        low j,
-        high i,
-        high j,
-        ordered i j d,
-        ordered i (j + 1) d,
-        ordered (i + 1) (j + 1) d,
-      )
+  remove_in_order = grind (arith, length-remove, get_or-remove_below, get_or-remove_above)
 
 -- ---- at the gap for a key
 
@@ -276,11 +253,7 @@ module _ {V : Type 0} (entries : Entries V) (key : List ℕ) (place : ℕ)
   remove_absent = sym (remove_none (same_folded key) entries (absent key (same_laws.refl key)))
 
   pub none_there : Changes same_folded (folded_value_at entries) key None (folded_value_at entries)
-  none_there = λ other. ⊎_elim
-      (λ yes. lookup-none (same_folded other) entries (absent other yes)
-      ∙ sym (cond-true (same_folded key other) None (folded_value_at entries other) yes))
-      (λ no. sym (cond-false (same_folded key other) None (folded_value_at entries other) no))
-      (cases_Bool (same_folded key other))
+  none_there = λ other. grind (arith, lookup-none, absent, cond-true, cond-false, cases_Bool)
 
   pub insert_there : (value : V) → Changes same_folded (folded_value_at entries) key (Some value)
       (folded_value_at (insert entries place (key, value)))

@@ -1,6 +1,6 @@
 -- The order of texts when the case of letters is ignored, code by code.
-use Rattle.std.proofs.Common.{◌≡◌, ℕ, ◌+◌, ◌-◌, ◌<◌, ◌≤◌, List, [], ◌∷◌, length, drop}
-use Rattle.std.proofs.Common.{map, get_or, arith, refl, ap, ◌∙◌, ◌⊎◌}
+use Rattle.std.proofs.Common.{◌≡◌, ℕ, ◌+◌, ◌<◌, ◌≤◌, List, [], ◌∷◌, length, drop, map, get_or}
+use Rattle.std.proofs.Common.{arith, refl, ◌⊎◌}
 use Rattle.std.proofs.lemmas.Bool.Decides.{nat_tests}
 use Rattle.std.proofs.lemmas.Grind.{common_steps}
 use Rattle.std.proofs.lemmas.List.{drop_more}
@@ -18,8 +18,7 @@ pub compares_next : (xs ys : List ℕ) (i : ℕ) → i < length xs → i < lengt
     → rest_cmp xs ys i
     ≡ ordering_then (nat_cmp (lower_image (get_or xs i 0)) (lower_image (get_or ys i 0)))
     (rest_cmp xs ys (i + 1))
-compares_next xs ys i a b =
-    rw (drop_more xs i 0 a, drop_more ys i 0 b) refl
+compares_next xs ys i a b = grind (arith, drop_more)
 
 -- the order of two texts of which one is empty
 order_of_ends : (xs ys : List ℕ) → (length xs ≡ 0) ⊎ (length ys ≡ 0)
@@ -32,13 +31,4 @@ order_of_ends (x ∷ xs) (y ∷ ys) ends = absurd (omega arith)
 -- two texts of which one has ended are ordered as their lengths are
 pub compares_end : (xs ys : List ℕ) (i : ℕ) → i ≤ length xs → i ≤ length ys
     → (length xs ≡ i) ⊎ (length ys ≡ i) → rest_cmp xs ys i ≡ nat_cmp (length xs) (length ys)
-compares_end xs ys i a b ends =
-    let us = map lower_image (drop i xs) in
-    let vs = map lower_image (drop i ys) in
-    let left : length us ≡ length xs - i = grind (arith, common_steps) in
-    let right : length vs ≡ length ys - i = grind (arith, common_steps) in
-    let gone : (length us ≡ 0) ⊎ (length vs ≡ 0) = grind arith in
-    let same : nat_cmp (length xs - i) (length ys - i) ≡ nat_cmp (length xs) (length ys) =
-    grind (arith, nat_tests) in
-    order_of_ends us vs gone ∙ (ap (λ n. nat_cmp n (length vs)) left
-    ∙ (ap (λ n. nat_cmp (length xs - i) n) right ∙ same))
+compares_end xs ys i a b ends = grind (arith, common_steps, nat_tests, order_of_ends)

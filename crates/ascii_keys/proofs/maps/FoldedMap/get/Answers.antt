@@ -1,12 +1,10 @@
-use Rattle.std.proofs.Common.{sym}
+use Rattle.std.proofs.Common.{sym, arith}
 use Rattle.ascii.specs.View.{text_of}
 use Rattle.ascii_keys.proofs.FoldedMapLemmas.{no_value, value_there}
 use Rattle.ascii_keys.proofs.maps.FoldedMap.get.Goals as goal
 
 pub returns-in-Ok : goal.returns-in-Ok
-returns-in-Ok over c = rw (← c.self.view_is)
-    (sym (value_there c.self.inside.entries.items c.self.invariant (text_of c.args.key)
-    c.in-Ok.place (rw c.self.view_is c.in-Ok.ensures.found) c.index.result.now c.index.ensures))
+returns-in-Ok over c = grind (arith, value_there)
 
 pub returns-in-Err : goal.returns-in-Err
 returns-in-Err over c =

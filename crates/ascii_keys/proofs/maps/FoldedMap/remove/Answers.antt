@@ -1,4 +1,4 @@
-use Rattle.std.proofs.Common.{sym}
+use Rattle.std.proofs.Common.{sym, arith}
 use Rattle.ascii.specs.View.{text_of}
 use Rattle.ascii_keys.proofs.FoldedMapLemmas.{no_value, none_there, remove_absent, remove_in_order}
 use Rattle.ascii_keys.proofs.FoldedMapLemmas.{remove_is, remove_there, value_there}
@@ -10,14 +10,10 @@ invariant_of-self over c = rw c.remove.ensures.items (remove_in_order
     (rw c.self.view_is c.in-Ok.ensures.found))
 
 pub returns-in-Ok-clause-before : goal.returns-in-Ok-clause-before
-returns-in-Ok-clause-before over c = rw (← c.self.view_is)
-    (sym (value_there c.self.inside.entries.items c.self.invariant (text_of c.args.key)
-    c.in-Ok.place (rw c.self.view_is c.in-Ok.ensures.found) c.remove.result c.remove.ensures.value))
+returns-in-Ok-clause-before over c = grind (arith, value_there)
 
 pub returns-in-Ok-clause-removes : goal.returns-in-Ok-clause-removes
-returns-in-Ok-clause-removes over c = rw (c.remove.ensures.items, ← c.self.view_is)
-    (remove_there c.self.inside.entries.items c.self.invariant (text_of c.args.key) c.in-Ok.place
-    (rw c.self.view_is c.in-Ok.ensures.found) c.remove.result c.remove.ensures.value)
+returns-in-Ok-clause-removes over c = grind (arith, remove_there)
 
 pub returns-in-Ok-clause-entries : goal.returns-in-Ok-clause-entries
 returns-in-Ok-clause-entries over c = rw (c.remove.ensures.items, ← c.self.view_is)
