@@ -1,15 +1,14 @@
 -- What was appended to an output, one piece after another.
-use Rattle.std.proofs.Common.{◌≡◌, ◌+◌, ◌-◌, ◌^◌, ◌<◌, ℕ, List, [], ◌++◌, Option, Bool, true}
-use Rattle.std.proofs.Common.{false, append-nil, ap, subst, sym, ◌∙◌, refl}
+use Rattle.std.proofs.Common.{◌≡◌, ◌+◌, ◌-◌, ℕ, List, [], ◌++◌, Option, Bool, true, arith, false}
+use Rattle.std.proofs.Common.{append-nil, ap, subst, ◌∙◌}
 use Rattle.std.proofs.lemmas.Bool.{false≢true}
 use Rattle.std.proofs.lemmas.List.{append_assoc, map-append}
 use Rattle.std.specs.Io.KnownBytes.{Appends}
 use Rattle.std.proofs.KnownBytes.{Appends-kept, Appends-nil, Appends-trans, Keeps-refl, Keeps-trans}
 use Rattle.ascii_devices.specs.Devices.{Grows, write_of}
 use Rattle.ascii_devices.specs.declared.log.Event.{Event}
-use Rattle.ascii_devices.specs.declared.log.Event.TheVariants.{Sent}
-use Rattle.ascii_devices.specs.Buffered.{AppendsBy, AppendsBytes, MayFail, OutputState}
-use Rattle.ascii_devices.specs.Buffered.{Sends, SendsNothing}
+use Rattle.ascii_devices.specs.Buffered.{AppendsBy, AppendsBytes, MayFail, OutputState, Sends}
+use Rattle.ascii_devices.specs.Buffered.{SendsNothing}
 use Rattle.ascii_devices.proofs.HistoryLemmas.{Grows-nil, Grows-trans}
 use Rattle.ascii_devices.proofs.ListLemmas.{append_two}
 
@@ -20,11 +19,7 @@ Sends-nil a = (Appends-nil a.taken, Grows-nil a.history)
 pub sends_more : (a b c : Option (List ℕ)) (h i j : Option (List Event)) (sent more : List ℕ)
     → Appends a b sent × Grows h i (write_of sent) → Appends b c more × Grows i j (write_of more)
     → Appends a c (sent ++ more) × Grows h j (write_of (sent ++ more))
-sends_more a b c h i j sent more (took, told) (took_more, told_more) = (
-  Appends-trans a b c sent more took took_more,
-  subst (Grows h j) (sym (map-append Sent sent more))
-      (Grows-trans h i j (write_of sent) (write_of more) told told_more),
-)
+sends_more a b c h i j sent more is given = grind (arith, Appends-trans, map-append, Grows-trans)
 
 -- the bytes were sent, and then more
 pub Sends-trans : (a b c : OutputState) (sent more : List ℕ)
@@ -35,10 +30,7 @@ Sends-trans a b c sent more sends =
 -- the bytes were sent, and then nothing
 pub Sends-kept : (a b c : OutputState) (sent : List ℕ)
     → Sends a b sent → SendsNothing b c → Sends a c sent
-Sends-kept a b c sent (took, told) (kept, same) = (
-  Appends-kept a.taken b.taken c.taken sent took kept,
-  subst (λ h. Grows a.history h (write_of sent)) (sym same) told,
-)
+Sends-kept a b c sent is given = grind (arith, Appends-kept)
 
 -- one piece and then another
 appends_by : (p q r : Bool) (a b c : OutputState) (first second : List ℕ)
@@ -67,37 +59,24 @@ appends_by false true true a b c first second ((sent, others, sends, is), count)
         sent,
         others ++ second,
         Sends-kept a b c sent sends nothing,
-        sym (append_assoc sent others second)
-            ∙ (ap (λ xs. xs ++ second) is ∙ append_assoc a.buffer.bytes first second),
+        grind (arith, append_assoc),
       ),
       same ∙ count,
     )
 appends_by true false r a b c first second one two = absurd (false≢true one.0)
 appends_by true true r a b c first second (_, (kept, still), same)
-    (broken, (kept_more, still_more), same_more) = (
-      broken,
-      (Keeps-trans a.taken b.taken c.taken kept kept_more, still_more ∙ still),
-      same_more ∙ same,
-    )
+    (broken, (kept_more, still_more), same_more) = grind (arith, Keeps-trans)
 
 pub AppendsBytes-trans : {a b c : OutputState} (first second : List ℕ)
     → AppendsBytes a b first → AppendsBytes b c second → AppendsBytes a c (first ++ second)
-AppendsBytes-trans {a} {b} {c} first second one two = record {
-  by_failure =
-      appends_by a.buffer.is_broken b.buffer.is_broken c.buffer.is_broken a b c first second
-      one.by_failure two.by_failure;
-  size = two.size ∙ one.size;
-  aside = two.aside ∙ one.aside;
-}
+AppendsBytes-trans {a} {b} {c} first second one two = grind (arith, appends_by)
 
 -- no byte was appended
 nothing_by : (p : Bool) (a : OutputState) → AppendsBy p p a a []
-nothing_by false a = ([], Sends-nil a, sym (append-nil a.buffer.bytes), refl)
-nothing_by true a = (refl, (Keeps-refl a.taken, refl), refl)
+nothing_by p a = grind (arith, Sends-nil, append-nil, Keeps-refl)
 
 pub AppendsBytes-nil : (a : OutputState) → AppendsBytes a a []
-AppendsBytes-nil a =
-    record { by_failure = nothing_by a.buffer.is_broken a; size = refl; aside = refl }
+AppendsBytes-nil a = grind (arith, nothing_by)
 
 -- bytes that are equal to those appended
 pub AppendsBytes-is : {a b : OutputState} {bytes same : List ℕ}
@@ -107,13 +86,8 @@ AppendsBytes-is {a} {b} is appends = subst (AppendsBytes a b) is appends
 -- if no write has failed by now, none had before, and no failure was counted
 unbroken_by : (p q : Bool) (a b : OutputState) (bytes : List ℕ)
     → AppendsBy p q a b bytes → q ≡ false → (p ≡ false) × (b.failures ≡ a.failures)
-unbroken_by false false a b bytes appends whole = (refl, appends.3)
-unbroken_by false true a b bytes appends whole = absurd (false≢true (sym whole))
-unbroken_by true q a b bytes appends whole = absurd (false≢true (sym whole ∙ appends.0))
+unbroken_by p q a b bytes appends whole = grind (arith, false≢true)
 
 pub MayFail-still : {a b : OutputState} (bytes : List ℕ)
     → MayFail a → AppendsBytes a b bytes → MayFail b
-MayFail-still {a} {b} bytes may appends = λ whole.
-    let p = a.buffer.is_broken in
-    let before = unbroken_by p b.buffer.is_broken a b bytes appends.by_failure whole in
-    subst (λ n. n < 2 ^ 64 - 1) (sym before.1) (may before.0)
+MayFail-still {a} {b} bytes may appends = grind (arith, unbroken_by)

@@ -1,5 +1,5 @@
 -- The flushes in a history.
-use Rattle.std.proofs.Common.{◌≡◌, ◌+◌, ℕ, List, [], ◌∷◌, ◌++◌, ap, map, refl}
+use Rattle.std.proofs.Common.{◌≡◌, ◌+◌, ℕ, List, [], ◌∷◌, ◌++◌, ap, map, refl, arith}
 use Rattle.ascii_devices.specs.Flushes.{flushes_in}
 use Rattle.ascii_devices.specs.declared.log.Event.{Event}
 use Rattle.ascii_devices.specs.declared.log.Event.TheVariants.{Flushed, Read, Received, Sent}
@@ -16,8 +16,7 @@ flushes_in-flushed (Sent byte ∷ events) = flushes_in-flushed events
 flushes_in-other : (events others : List Event) → flushes_in others ≡ 0
     → flushes_in (events ++ others) ≡ flushes_in events
 flushes_in-other [] others none = none
-flushes_in-other (Flushed ∷ events) others none =
-    ap (λ n. n + 1) (flushes_in-other events others none)
+flushes_in-other (Flushed ∷ events) others none = grind (arith, flushes_in-other events others none)
 flushes_in-other (Read ∷ events) others none = flushes_in-other events others none
 flushes_in-other (Received byte ∷ events) others none = flushes_in-other events others none
 flushes_in-other (Sent byte ∷ events) others none = flushes_in-other events others none
@@ -36,8 +35,7 @@ flushes_in-sent events bytes = flushes_in-other events (map Sent bytes) (none_se
 
 pub flushes_in-received : (events : List Event) (bytes : List ℕ)
     → flushes_in (events ++ map Received bytes) ≡ flushes_in events
-flushes_in-received events bytes =
-    flushes_in-other events (map Received bytes) (none_received bytes)
+flushes_in-received events bytes = grind (arith, flushes_in-other, none_received)
 
 pub flushes_in-read : (events : List Event)
     → flushes_in (events ++ Read ∷ []) ≡ flushes_in events

@@ -1,5 +1,5 @@
 -- What happened at a device, one call after another.
-use Rattle.std.proofs.Common.{◌≡◌, ℕ, ◌+◌, List, [], ◌∷◌, ◌++◌, Option, None, Some, map, ap, sym}
+use Rattle.std.proofs.Common.{◌≡◌, ℕ, ◌+◌, List, [], ◌∷◌, ◌++◌, Option, Some, map, ap, sym}
 use Rattle.std.proofs.Common.{append_assoc, append-nil, arith, refl, subst, ◌∙◌}
 use Rattle.std.specs.Prelude.{IfSome}
 use Rattle.std.proofs.KnownBytes.{Appends-kept, Appends-nil, Appends-trans, Consumes-nil}
@@ -13,16 +13,11 @@ use Rattle.ascii_devices.specs.declared.log.Event.{Event}
 use Rattle.ascii_devices.specs.declared.log.Event.TheVariants.{Flushed, Read, Received, Sent}
 
 pub Grows-nil : (a : Option (List Event)) → Grows a a []
-Grows-nil None = tt
-Grows-nil (Some xs) = sym (append-nil xs)
+Grows-nil a = grind (arith, append-nil)
 
 pub Grows-trans : (a b c : Option (List Event)) (xs ys : List Event)
     → Grows a b xs → Grows b c ys → Grows a c (xs ++ ys)
-Grows-trans None b c xs ys first then = tt
-Grows-trans (Some a) None c xs ys first then = absurd first
-Grows-trans (Some a) (Some b) None xs ys first then = absurd then
-Grows-trans (Some a) (Some b) (Some c) xs ys first then =
-    then ∙ (ap (λ zs. zs ++ ys) first ∙ append_assoc a xs ys)
+Grows-trans a b c xs ys first then = grind (arith, append_assoc)
 
 -- ---- the bytes that passed
 
@@ -58,22 +53,14 @@ Tells of old new bytes = IfSome old (λ before. (events : List Event)
 
 pub tells-by : (of : List Event → List ℕ) (a b : Option (List Event)) (events : List Event)
     (bytes : List ℕ) → Grows a b events → of events ≡ bytes → Tells of a b bytes
-tells-by of None b events bytes grows is = tt
-tells-by of (Some xs) None events bytes grows is = absurd grows
-tells-by of (Some xs) (Some ys) events bytes grows is = (events, ap Some grows, is)
+tells-by of a b events bytes grows is = grind arith
 
 -- events before and after
 pub tells-more : (of : List Event → List ℕ)
     → ((xs ys : List Event) → of (xs ++ ys) ≡ of xs ++ of ys)
     → (a b c : Option (List Event)) (bytes more : List ℕ)
     → Tells of a b bytes → Tells of b c more → Tells of a c (bytes ++ more)
-tells-more of both None b c bytes more first then = tt
-tells-more of both (Some xs) b c bytes more (events, is, told) then =
-    let after = subst (λ h. Tells of h c more) is then in (
-      events ++ after.0,
-      after.1 ∙ ap Some (append_assoc xs events after.0),
-      both events after.0 ∙ (λ k. told k ++ after.2 k),
-    )
+tells-more of both ys b c bytes more first then = grind (arith, append_assoc)
 
 tells-nil : (of : List Event → List ℕ) → of [] ≡ [] → (a : Option (List Event))
     → Tells of a a []
@@ -83,8 +70,7 @@ received-read : (bytes : List ℕ) → received_of (read_of bytes) ≡ bytes
 received-read bytes = received_of-all bytes
 
 sent-flushed : (bytes : List ℕ) → sent_of (write_of bytes ++ Flushed ∷ []) ≡ bytes
-sent-flushed bytes = sent_of-append (write_of bytes) (Flushed ∷ [])
-    ∙ (append-nil (sent_of (write_of bytes)) ∙ sent_of-all bytes)
+sent-flushed bytes = grind (arith, sent_of-append, append-nil, sent_of-all)
 
 -- ---- what a source gave
 
@@ -102,9 +88,7 @@ module _ {S : Type 0} (says : source.Ghosts S) where
       → Gives says a b bytes → Gives says b c more → Gives says a c (bytes ++ more)
   Gives-trans a b c bytes more kept first then = record {
     rest = then.rest;
-    gave = Consumes-trans (says.rest a) (says.rest b) then.rest bytes more
-        (subst (λ r. Consumes (says.rest a) r bytes) (sym (first.left kept)) first.gave)
-        then.gave;
+    gave = grind (arith, Consumes-trans);
     left = λ same. then.left (same ∙ sym kept);
     told = tells-more received_of received_of-append (says.history a) (says.history b)
         (says.history c) bytes more first.told then.told;
@@ -113,13 +97,7 @@ module _ {S : Type 0} (says : source.Ghosts S) where
   -- one read
   pub read_gives : (a b : S) (bytes : List ℕ) → Consumes (says.rest a) (says.rest b) bytes
       → Grows (says.history a) (says.history b) (read_of bytes) → Gives says a b bytes
-  read_gives a b bytes gave grows = record {
-    rest = says.rest b;
-    gave = gave;
-    left = λ same. refl;
-    told = tells-by received_of (says.history a) (says.history b) (read_of bytes) bytes grows
-        (received-read bytes);
-  }
+  read_gives a b bytes gave grows = grind (arith, tells-by, received-read)
 
   -- a read that failed
   pub read_fails : (a b : S) → says.failures b ≡ says.failures a + 1
@@ -136,8 +114,7 @@ module _ {S : Type 0} (says : source.Ghosts S) where
       → says.failures c ≡ says.failures b → Gives says a b bytes
       → Consumes (says.rest b) (says.rest c) more
       → Grows (says.history b) (says.history c) (read_of more) → Gives says a c (bytes ++ more)
-  Gives-read a b c bytes more kept still gives then grows =
-      Gives-trans a b c bytes more kept gives (read_gives b c more then grows)
+  Gives-read a b c bytes more kept still gives then grows = grind (arith, Gives-trans, read_gives)
 
   -- if no call failed, what is left is what the source says of itself
   pub Gives-end : (a b : S) (bytes : List ℕ) (gives : Gives says a b bytes)
@@ -164,8 +141,7 @@ module _ {K : Type 0} (says : sink.Ghosts K) where
   pub Takes-trans : (a b c : K) (bytes more : List ℕ) → Takes says a b bytes
       → Takes says b c more → Takes says a c (bytes ++ more)
   Takes-trans a b c bytes more first then = record {
-    took = Appends-trans (says.taken a) (says.taken b) (says.taken c) bytes more first.took
-        then.took;
+    took = grind (arith, Appends-trans);
     told = tells-more sent_of sent_of-append (says.history a) (says.history b)
         (says.history c) bytes more first.told then.told;
   }
@@ -173,26 +149,15 @@ module _ {K : Type 0} (says : sink.Ghosts K) where
   -- bytes that were sent, and bytes that were sent before a flush
   pub Takes-sent : (a b : K) (bytes : List ℕ) → Appends (says.taken a) (says.taken b) bytes
       → Grows (says.history a) (says.history b) (write_of bytes) → Takes says a b bytes
-  Takes-sent a b bytes took grows = record {
-    took = took;
-    told = tells-by sent_of (says.history a) (says.history b) (write_of bytes) bytes grows
-        (sent_of-all bytes);
-  }
+  Takes-sent a b bytes took grows = grind (arith, tells-by, sent_of-all)
 
   pub Takes-flushed : (a b : K) (bytes : List ℕ) → Appends (says.taken a) (says.taken b) bytes
       → Grows (says.history a) (says.history b) (write_of bytes ++ Flushed ∷ [])
       → Takes says a b bytes
-  Takes-flushed a b bytes took grows = record {
-    took = took;
-    told = tells-by sent_of (says.history a) (says.history b) (write_of bytes ++ Flushed ∷ [])
-        bytes grows (sent-flushed bytes);
-  }
+  Takes-flushed a b bytes took grows = grind (arith, tells-by, sent-flushed)
 
   -- some bytes, and then nothing happened at it
   pub Takes-kept : (a b c : K) (bytes : List ℕ) → Takes says a b bytes
       → Keeps (says.taken b) (says.taken c) → says.history c ≡ says.history b
       → Takes says a c bytes
-  Takes-kept a b c bytes takes kept same = record {
-    took = Appends-kept (says.taken a) (says.taken b) (says.taken c) bytes takes.took kept;
-    told = subst (λ h. Tells sent_of (says.history a) h bytes) (sym same) takes.told;
-  }
+  Takes-kept a b c bytes takes kept same = grind (arith, Appends-kept)

@@ -1,4 +1,4 @@
-use Rattle.std.proofs.Common.{◌≡◌, ℕ, arith, length, refl, rules, subst, sym}
+use Rattle.std.proofs.Common.{◌≡◌, ℕ, arith, length, refl, subst, sym}
 use Rattle.std.proofs.lemmas.Grind.{common_steps}
 use Rattle.std.proofs.lemmas.List.Elements.{All-replicate}
 use Rattle.std.specs.List.{All}
@@ -6,10 +6,7 @@ use Rattle.ascii_devices.proofs.ListLemmas.{zeros_more}
 use Rattle.ascii_devices.proofs.buffered.zeros.Goals as goal
 
 pub parts-preserved : goal.parts-preserved
-parts-preserved g c = (
-  grind (arith, common_steps),
-  zeros_more c.parts.zeros.items _ c.min-part.result c.parts.invariant.1 (search rules),
-)
+parts-preserved g c = grind (arith, common_steps, zeros_more)
 
 pub returns-clause-zeros : goal.returns-clause-zeros
 returns-clause-zeros g c =

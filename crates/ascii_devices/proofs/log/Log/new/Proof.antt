@@ -1,5 +1,5 @@
 -- `new` makes the empty struct, with the items that its clause names. Assumes `Logic`.
-use Rattle.std.proofs.Common.{[], ◌∷◌, refl}
+use Rattle.std.proofs.Common.{[], ◌∷◌, refl, arith}
 use seplogic.Ra.Ura.{Ura}
 use mir.Syntax.{Fn, Args, a_type}
 use mir.Val.{Val}
@@ -68,8 +68,7 @@ module _ (A : RattleType) where
       walks =
           let a = z.0.3 in
           let vss = z.0.4 in
-          let made : (Log.the_row (param 0 A)).Denot =
-          record { of = record {}; items = [] } in
+          let made : (Log.the_row (param 0 A)).Denot = grind arith in
           qed 𝓛 ((raw toks ⊛ ‵ (owns (types_at ended.signature.params z.0.0) a vss)) ∷ raw ((held z.0.0 a).requires z.1) ∷ []) ∵
           keep ! (0 ∷ []) $ split ! $ keep ! (0 ∷ []) $
           enter ! C Λ function [] Post $ alloc_all ! (λ l. pass_all ! refl tt $
