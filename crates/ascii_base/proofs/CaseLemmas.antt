@@ -1,12 +1,10 @@
 -- Images in upper and lower case, of vectors, of parts and of whole lists.
-use Rattle.std.proofs.Common.{◌≡◌, ◌↔◌, ℕ, ◌+◌, ◌-◌, ◌%◌, ◌^◌, ◌≤◌, ltb, eqb, not, ◌&&◌}
-use Rattle.std.proofs.Common.{true, false, cond}
-use Rattle.std.proofs.Common.{List, [], ◌∷◌, ◌++◌, map, length, get_or, take, drop, replicate, Fits}
-use Rattle.std.proofs.Common.{w8, bit_and, bit_or, refl, sym, ap, ap₂, ◌∙◌, arith, inl, inr}
-use Rattle.std.proofs.Common.{take-add, drop-drop}
+use Rattle.std.proofs.Common.{◌≡◌, ◌↔◌, ℕ, ◌+◌, ◌-◌, ◌%◌, ◌^◌, ◌≤◌, ltb, eqb, not, ◌&&◌, true}
+use Rattle.std.proofs.Common.{false, cond, List, [], ◌∷◌, ◌++◌, map, length, take, drop, replicate}
+use Rattle.std.proofs.Common.{Fits, w8, bit_and, bit_or, refl, sym, ap, ap₂, ◌∙◌, arith, take-add}
+use Rattle.std.proofs.Common.{drop-drop}
 use Rattle.std.proofs.Math.Seq.{take-append_seam, drop-append_seam}
 use Rattle.std.proofs.lemmas.Bool.{agree_below, agree_below_at, eqb-true, eqb-false, eq-eqb}
-use Rattle.std.proofs.lemmas.Bool.{cases_Bool}
 use Rattle.std.proofs.lemmas.List.{length-map, map-append, append_assoc, append-nil}
 use Rattle.std.proofs.lemmas.List.{append_cancel_left, take-append-drop, take-take, take-map}
 use Rattle.std.proofs.lemmas.List.{take_all, drop_all, length-take, length-take-le, length-drop}
@@ -35,15 +33,9 @@ pub map_chunk_more : (f : ℕ → ℕ) (xs ys : List ℕ) (i n : ℕ) → i + n 
 map_chunk_more f xs ys i n room e =
     let front = map f (take i xs) in
     let at : length front ≡ i = length-map (take i xs) f ∙ length-take-le i xs (omega arith) in
-    let rest : drop i ys ≡ drop i xs =
-    ap (drop i) e ∙ ap (λ k. drop k (front ++ drop i xs)) (sym at)
-    ∙ drop-append_seam front (drop i xs) in
-    let before : take i ys ≡ front =
-    ap (take i) e ∙ ap (λ k. take k (front ++ drop i xs)) (sym at)
-    ∙ take-append_seam front (drop i xs) in
-    let size : length (map f (chunk i n ys)) ≡ n =
-    length-map (chunk i n ys) f ∙ ap (λ l. length (take n l)) rest
-    ∙ length-chunk i n xs room in
+    let rest : drop i ys ≡ drop i xs = grind (arith, drop-append_seam) in
+    let before : take i ys ≡ front = grind (arith, take-append_seam) in
+    let size : length (map f (chunk i n ys)) ≡ n = grind (arith, length-map, length-chunk) in
     let whole : length ys ≡ length xs =
     omega (
       arith,
@@ -53,13 +45,7 @@ map_chunk_more f xs ys i n room e =
       ap length before,
       length-take i ys,
     ) in
-    put_chunk_is i ys (map f (chunk i n ys)) (omega arith)
-    ∙ ap₂ (λ a b. a ++ b) before
-    (ap₂ (λ a b. a ++ b) (ap (λ l. map f (take n l)) rest)
-    (ap₂ drop size rest ∙ drop-drop n i xs))
-    ∙ sym (append_assoc front (map f (chunk i n xs)) (drop (i + n) xs))
-    ∙ ap (λ l. l ++ drop (i + n) xs)
-    (sym (map-append f (take i xs) (chunk i n xs)) ∙ ap (map f) (sym (take-add i n xs)))
+    grind (arith, put_chunk_is, ap₂, drop-drop, append_assoc, map-append, take-add)
 
 -- a map of the last n bytes, after bytes that are mapped up to there at least, is the map of the
 -- whole
@@ -69,18 +55,13 @@ pub mapped_whole : (f : ℕ → ℕ) (xs ys : List ℕ) (last n at : ℕ) → la
 mapped_whole f xs ys last n at ends past inside e =
     let start = map f (take at xs) in
     let long : length start ≡ at = length-map (take at xs) f ∙ length-take-le at xs inside in
-    let whole : length ys ≡ length xs =
-    ap length e ∙ length-append start (drop at xs) ∙ omega (arith, long, length-drop at xs) in
-    let shown : take at ys ≡ start =
-    ap (take at) e ∙ ap (λ k. take k (start ++ drop at xs)) (sym long)
-    ∙ take-append_seam start (drop at xs) in
+    let whole : length ys ≡ length xs = grind (arith, length-append, long, length-drop) in
+    let shown : take at ys ≡ start = grind (arith, long, take-append_seam) in
     let before : take last ys ≡ map f (take last xs) =
     sym (take-take last at ys past) ∙ ap (take last) shown ∙ take-map f last (take at xs)
     ∙ ap (map f) (take-take last at xs past) in
-    let all : chunk last n xs ≡ drop last xs =
-    take_all n (drop last xs) (omega (arith, length-drop last xs)) in
-    let size : length (map f (chunk last n xs)) ≡ n =
-    length-map (chunk last n xs) f ∙ length-chunk last n xs (omega arith) in
+    let all : chunk last n xs ≡ drop last xs = grind (arith, take_all, length-drop) in
+    let size : length (map f (chunk last n xs)) ≡ n = grind (arith, length-map, length-chunk) in
     let none : drop (length (map f (chunk last n xs))) (drop last ys) ≡ [] =
     drop_all _ (drop last ys) (omega (arith, length-drop last ys, whole, size)) in
     put_chunk_is last ys (map f (chunk last n xs)) (omega (arith, whole, size))
@@ -104,8 +85,7 @@ apart_at : (a b : ℕ) → Fits w8 a → Fits w8 b
     → eqb (bit_and (bit_xor a b) (counted a)) 0 ≡ eqb (lower_image a) (lower_image b)
 apart_at a b fits_a fits_b =
     agree_below_at (λ y. eqb (bit_and (bit_xor a y) (counted a)) 0)
-    (λ y. eqb (lower_image a) (lower_image y)) 256 b
-    (agree_below_at
+    (λ y. eqb (lower_image a) (lower_image y)) 256 b (agree_below_at
     (λ x. agree_below (λ y. eqb (bit_and (bit_xor x y) (counted x)) 0)
     (λ y. eqb (lower_image x) (lower_image y)) 256) (λ _. true) 256 a apart_tells
     fits_a.fits) fits_b.fits
@@ -122,9 +102,7 @@ pub near_at : (a b : ℕ) → Fits w8 a → Fits w8 b
 near_at a b fits_a fits_b =
     agree_below_at
     (λ y. eqb (lower_image a) (lower_image y) && not (eqb (bit_and (bit_xor a y) 223) 0))
-    (λ _. false) 256 b
-    (agree_below_at
-    (λ x. agree_below
+    (λ _. false) 256 b (agree_below_at (λ x. agree_below
     (λ y. eqb (lower_image x) (lower_image y) && not (eqb (bit_and (bit_xor x y) 223) 0))
     (λ _. false) 256) (λ _. true) 256 a near_tells fits_a.fits) fits_b.fits
 
@@ -149,22 +127,7 @@ none_apart (u ∷ us) [] e fx fy = absurd (omega arith)
 none_apart (u ∷ us) (v ∷ vs) e fx fy =
     let r = none_apart us vs (omega arith) fx.1 fy.1 in
     let here = apart_at u v fx.0 fy.0 in
-    elim (cases_Bool (eqb (lower_image u) (lower_image v))) [
-      | inl t ↦
-          let low : cond {A = ℕ} (not (eqb (bit_and (bit_xor u v) (counted u)) 0)) 1 0 ≡ 0 =
-          ap (λ b. cond {A = ℕ} (not b) 1 0) (here ∙ t) in (
-            λ z. ap₂ (λ x xs. x ∷ xs) (eqb-true _ _ t) (r.0 (omega (arith, low))),
-            λ eq. omega
-                (arith, low, r.1 (ap (drop 1) eq)),
-          )
-      | inr f ↦
-          let low : cond {A = ℕ} (not (eqb (bit_and (bit_xor u v) (counted u)) 0)) 1 0 ≡ 1 =
-          ap (λ b. cond {A = ℕ} (not b) 1 0) (here ∙ f) in (
-            λ z. absurd (omega (arith, low)),
-            λ eq. absurd
-                (eqb-false _ _ f (ap (λ l. get_or l 0 0) eq)),
-          )
-    ]
+    grind (arith, eqb, not, bit_and, ap₂, eqb-true, eqb-false)
 
 -- the test of two vectors by the bits that count
 pub no_mark : (xs ys : List ℕ) (n : ℕ) → length xs ≡ n → length ys ≡ n → n ≤ 64
@@ -189,9 +152,7 @@ no_mark xs ys n long_x long_y few fits_x fits_y =
         (splat_is_map xs n 97 long_x)) (splat_is_map xs n 26 long_x)
 
     cs : List ℕ
-    cs = sel_l
-        (map (top 7)
-        (zip2 (λ a b. cond (ltb a b) 255 0)
+    cs = sel_l (map (top 7) (zip2 (λ a b. cond (ltb a b) 255 0)
         (zip2 (λ a b. (a + (256 - b)) % 256) (zip2 bit_or xs (replicate n 32)) (replicate n 97))
         (replicate n 26))) (replicate n 223) (replicate n 255)
 
@@ -202,8 +163,7 @@ no_mark xs ys n long_x long_y few fits_x fits_y =
         n long_x (ap (map (top 7)) below ∙ map-map (top 7) _ xs))
 
     long : length (zip2 bit_and (zip2 bit_xor xs ys) cs) ≡ n
-    long = ap length bits ∙ length-zip2 (λ a b. bit_and (bit_xor a b) (counted a)) xs ys
-        (long_x ∙ sym long_y) ∙ long_x
+    long = grind (arith, bits, length-zip2, bit_and)
 
     mask : mask_l
         (map (top 7)
@@ -223,8 +183,7 @@ pub same_shorter : (xs ys : List ℕ) (i j : ℕ) → i ≤ j → SameBefore xs 
 same_shorter xs ys i j le same = part xs ∙ ap (take i) same ∙ sym (part ys)
   where
     part : (l : List ℕ) → map lower_image (take i l) ≡ take i (map lower_image (take j l))
-    part l = ap (map lower_image) (sym (take-take i j l le))
-        ∙ sym (take-map lower_image i (take j l))
+    part l = grind (arith, take-take, take-map)
 
 -- lists with equal images have equal images of each front, and those of the whole fronts are the
 -- images
@@ -237,14 +196,4 @@ same_front xs ys i same = sym (take-map lower_image i xs) ∙ ap (take i) same
 pub same_more : (xs ys : List ℕ) (at n : ℕ) → SameBefore xs ys at
     → (map lower_image (chunk at n xs) ≡ map lower_image (chunk at n ys)) ↔ SameBefore xs ys
     (at + n)
-same_more xs ys at n before = (
-  (λ e. parts xs ∙ ap₂ (λ a b. a ++ b) before e ∙ sym (parts ys)),
-  (λ e. append_cancel_left (map lower_image (take at ys)) _ _
-      (ap (λ a. a ++ map lower_image (chunk at n xs)) (sym before) ∙ sym (parts xs) ∙ e
-      ∙ parts ys)),
-)
-  where
-    parts : (l : List ℕ) → map lower_image (take (at + n) l) ≡ map lower_image (take at l) ++ map
-        lower_image (chunk at n l)
-    parts l = ap (map lower_image) (take-add at n l)
-        ∙ map-append lower_image (take at l) (chunk at n l)
+same_more xs ys at n before = grind (arith, ap₂, append_cancel_left, take-add, map-append)

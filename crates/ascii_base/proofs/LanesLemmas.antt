@@ -1,9 +1,8 @@
 -- From the vectors of a load to the bytes that it is of.
 use Rattle.std.proofs.Common.{◌≡◌, ℕ, ◌+◌, ◌-◌, ◌*◌, ◌%◌, ◌^◌, ◌<◌, ◌≤◌, suc, Bool, true, false}
-use Rattle.std.proofs.Common.{cond, List, [], ◌∷◌, map, length, get_or, replicate, Fits, w8}
-use Rattle.std.proofs.Common.{w64, ◌≢◌}
-use Rattle.std.proofs.Common.{bit_or, refl, sym, ap, ◌∙◌, subst, arith, inl, inr}
-use Rattle.std.proofs.Common.{MatchOption, None, Option, Some}
+use Rattle.std.proofs.Common.{cond, List, [], ◌∷◌, map, length, get_or, replicate, Fits, w8, w64}
+use Rattle.std.proofs.Common.{◌≢◌, bit_or, refl, sym, ap, ◌∙◌, arith, inl, inr, MatchOption, None}
+use Rattle.std.proofs.Common.{Option, Some}
 use Rattle.std.specs.Bool.{Decides}
 use Rattle.std.specs.Int.{bit_at}
 use Rattle.std.specs.Int.Bits.{bit_xor}
@@ -31,10 +30,7 @@ itself (x ∷ xs) = ap (λ r. x ∷ r) (itself xs)
 pub chosen : (test : ℕ → Bool) (here other : ℕ) (lanes : List ℕ) (n : ℕ) {ms : List Bool}
     → length lanes ≡ n → ms ≡ map test lanes
     → sel_l ms (replicate n here) (replicate n other) ≡ map (λ x. cond (test x) here other) lanes
-chosen test here other lanes n long e =
-    ap (λ m. sel_l m (replicate n here) (replicate n other)) e
-    ∙ ap (λ k. sel_l (map test lanes) (replicate k here) (replicate k other)) (sym long)
-    ∙ go lanes
+chosen test here other lanes n long e = grind (arith, replicate, long, go)
   where
     go : (xs : List ℕ) → sel_l (map test xs) (replicate (length xs) here)
         (replicate (length xs) other) ≡ map (λ x. cond (test x) here other) xs
@@ -50,19 +46,7 @@ module _ (Is : ℕ → Type 0) (test : ℕ → Bool) (outside : (x : ℕ) → te
       → ((k : ℕ) → Fits w8 (get_or bytes k 0))
       → (z : List ℕ) → z ≡ map f (chunk at n bytes)
       → Marks Is bytes at n (mask_l (map (top 7) z) % 2 ^ 64)
-  marks_by bytes at n room few fits z e = record {
-    set = λ k is. elim (cases_lt k n) [
-      | inl l ↦ elim (cases_Bool (test (get_or bytes (at + k) 0))) [
-        | inl t ↦ (l, outside _ t)
-        | inr t ↦ absurd (omega (arith, is, bit k l ∙ ap (λ b. cond b 1 0) t))
-      ]
-      | inr g ↦ absurd (omega (arith, is, past k g))
-    ];
-    clear = λ k is l. elim (cases_Bool (test (get_or bytes (at + k) 0))) [
-      | inl t ↦ absurd (omega (arith, is, bit k l ∙ ap (λ b. cond b 1 0) t))
-      | inr t ↦ within _ t
-    ];
-  }
+  marks_by bytes at n room few fits z e = grind (arith, cases_lt, cases_Bool, bit, past)
     where
       ms : List Bool
       ms = map (λ x. top 7 (f x)) (chunk at n bytes)
@@ -71,20 +55,13 @@ module _ (Is : ℕ → Type 0) (test : ℕ → Bool) (outside : (x : ℕ) → te
       long = length-map (chunk at n bytes) (λ x. top 7 (f x)) ∙ length-chunk at n bytes room
 
       any : (k : ℕ) → bit_at (mask_l (map (top 7) z) % 2 ^ 64) k ≡ cond (get_or ms k false) 1 0
-      any k = ap (λ m. bit_at m k)
-          (ap (λ l. mask_l l % 2 ^ 64) (ap (map (top 7)) e
+      any k = ap (λ m. bit_at m k) (ap (λ l. mask_l l % 2 ^ 64) (ap (map (top 7)) e
           ∙ map-map (top 7) f (chunk at n bytes)) ∙ mask_l-mod ms 64 (omega (arith, long)))
           ∙ bit_mask_l ms k
 
       bit : (k : ℕ) → k < n → bit_at (mask_l (map (top 7) z) % 2 ^ 64) k ≡ cond
           (test (get_or bytes (at + k) 0)) 1 0
-      bit k l =
-          let inside : k < length (chunk at n bytes) =
-          omega (arith, length-chunk at n bytes room) in
-          let here = get_or-map (λ x. top 7 (f x)) (chunk at n bytes) k 0 false inside
-          ∙ ap (λ x. top 7 (f x)) (get_or-chunk at n bytes k 0 l) in
-          any k ∙ ap (λ b. cond b 1 0) (here
-          ∙ all (get_or bytes (at + k) 0) (fits (at + k)).fits)
+      bit k l = grind (arith, length-chunk, get_or-map, get_or-chunk, any)
 
       past : (k : ℕ) → n ≤ k → bit_at (mask_l (map (top 7) z) % 2 ^ 64) k ≡ 0
       past k g = any k ∙ ap (λ b. cond b 1 0) (get_or_past ms k false (omega (arith, long)))
@@ -102,11 +79,7 @@ marks_of Is test outside within f all = marks_by Is test outside within f
 
 -- the bit at k of a number from 2 ^ k up to its double
 pub highest_bit : (m k : ℕ) → 2 ^ k ≤ m → m < 2 * 2 ^ k → bit_at m k ≡ 1
-highest_bit m k low high =
-    let parts : 1 * 2 ^ k + (m - 2 ^ k) ≡ m = omega arith in
-    let first : k - k ≡ 0 = omega arith in
-    ap (λ x. bit_at x k) (sym parts)
-    ∙ bit_at_cat_high 1 k (m - 2 ^ k) k (omega arith) (omega arith) ∙ ap (bit_at 1) first
+highest_bit m k low high = grind (arith, low, high, bit_at_cat_high)
 
 -- two masks of which neither has a bit
 pub or_zero : (a b : ℕ) → bit_or a b ≡ 0 → (a ≡ 0) × (b ≡ 0)
@@ -126,8 +99,7 @@ module _ (Is : ℕ → Type 0) (bytes : List ℕ) (at n mask : ℕ) (marks : Mar
         | inl l ↦ before k l
         | inr g ↦
             let same : at + (k - at) ≡ k = omega arith in
-            subst (λ j. Is (get_or bytes j 0)) same
-            (marks.clear (k - at) (clear (k - at) (omega arith)) (omega arith))
+            grind arith
       ]
 
   -- the same over all lanes, if none has a mark
@@ -141,8 +113,7 @@ module _ (Is : ℕ → Type 0) (bytes : List ℕ) (at n mask : ℕ) (marks : Mar
       elim (cases_lt k (at + n)) [
         | inl l ↦
             let same : at + (k - at) ≡ k = omega arith in
-            subst (λ j. Is (get_or bytes j 0)) same
-            (marks.clear (k - at) (clear (k - at) (omega arith)) (omega arith))
+            grind arith
         | inr g ↦ after k g to
       ]
 
@@ -177,63 +148,36 @@ module _ (Is : ℕ → Type 0) (bytes : List ℕ) (at n mask : ℕ) (marks : Mar
 pub marks_other : (Is : ℕ → Type 0) (bytes : List ℕ) (at n mask : ℕ) → n < 64
     → Marks Is bytes at n mask
     → Marks (λ byte. ¬ (Is byte)) bytes at n (bit_xor mask (1 * 2 ^ n % 2 ^ 64 - 1))
-marks_other Is bytes at n mask few marks = record {
-  set = λ k is. elim (cases_lt k n) [
-    | inl l ↦ (
-      l,
-      λ out. out (marks.clear k (omega (arith, is, low k l, bit_at-lt mask k)) l),
-    )
-    | inr g ↦
-        let old = marks.set k (omega (arith, is, high k g, bit_at-lt mask k)) in
-        let short : k < n = old.0 in
-        absurd (omega arith)
-  ];
-  clear = λ k is l. (marks.set k (omega (arith, is, low k l, bit_at-lt mask k))).1;
-}
+marks_other Is bytes at n mask few marks = grind (arith, cases_lt, low, bit_at-lt, high)
   where
     ones : 1 * 2 ^ n % 2 ^ 64 - 1 ≡ 2 ^ n - 1
-    ones = let small : 1 * 2 ^ n < 2 ^ 64 = omega (arith, pow-lt {i = n} {j = 64} few) in
-        ap (λ m. m - 1) (mod-eq_of_lt small ∙ omega arith)
+    ones = grind (arith, pow-lt, mod-eq_of_lt)
 
     low : (k : ℕ) → k < n
         → bit_at (bit_xor mask (1 * 2 ^ n % 2 ^ 64 - 1)) k ≡ (bit_at mask k + 1) % 2
-    low k l = ap (λ m. bit_at (bit_xor mask m) k) ones ∙ (bit_at_xor mask (2 ^ n - 1) k
-        ∙ ap (λ b. (bit_at mask k + b) % 2) (bit_at_ones n k l))
+    low k l = ap (λ m. bit_at (bit_xor mask m) k) ones ∙ (grind (arith, bit_at_xor, bit_at_ones))
 
     high : (k : ℕ) → n ≤ k
         → bit_at (bit_xor mask (1 * 2 ^ n % 2 ^ 64 - 1)) k ≡ (bit_at mask k + 0) % 2
-    high k g = ap (λ m. bit_at (bit_xor mask m) k) ones ∙ (bit_at_xor mask (2 ^ n - 1) k
-        ∙ ap (λ b. (bit_at mask k + b) % 2) (bit_at_ones_above n k g))
+    high k g = grind (arith, ones, bit_at_xor, bit_at_ones_above)
 
 -- what is not outside a class is in it
 module _ (Is : ℕ → Type 0) (test : ℕ → Bool) (decides : (n : ℕ) → Decides (test n) (Is n)) where
   pub not_outside : (n : ℕ) → ¬ (¬ (Is n)) → Is n
-  not_outside n out = elim (cases_Bool (test n)) [
-    | inl in_it ↦ (decides n).0 in_it
-    | inr other ↦ absurd (out (not_from_Decides (test n) (decides n) other))
-  ]
+  not_outside n out = grind (arith, cases_Bool, not_from_Decides)
 
   pub first_of_found : (bytes : List ℕ) (found : Option ℕ)
       → FindsFirstNot (λ byte. ¬ (Is byte)) bytes (length bytes) found
       → MatchOption found (All (λ byte. ¬ (Is byte)) bytes) (IsFirstOf Is bytes 0 (length bytes))
   first_of_found bytes None all = All-from_get_or (λ byte. ¬ (Is byte)) bytes 0 all
-  first_of_found bytes (Some i) found = record {
-    at_least = found.at_least;
-    inside = found.inside;
-    one = not_outside _ found.other;
-    least = found.least;
-  }
+  first_of_found bytes (Some i) found = grind (arith, not_outside)
 
   pub last_of_found : (bytes : List ℕ) (found : Option ℕ)
       → FindsLastNot (λ byte. ¬ (Is byte)) bytes 0 found
       → MatchOption found (All (λ byte. ¬ (Is byte)) bytes) (IsLastOf Is bytes)
   last_of_found bytes None all = All-from_get_or (λ byte. ¬ (Is byte)) bytes 0
       (λ k l. all k (omega arith) l)
-  last_of_found bytes (Some i) found = record {
-    inside = found.inside;
-    one = not_outside _ found.other;
-    greatest = found.greatest;
-  }
+  last_of_found bytes (Some i) found = grind (arith, not_outside)
 
 -- one byte more that is not in the class sets its bit, and one in the class leaves it clear
 module _ (Is : ℕ → Type 0) (bytes : List ℕ) (at k mask : ℕ) where
@@ -241,10 +185,7 @@ module _ (Is : ℕ → Type 0) (bytes : List ℕ) (at k mask : ℕ) where
       → Marks Is bytes at (k + 1) (bit_or mask (1 * 2 ^ k % 2 ^ 64))
   mark_more few marks out = record {
     set = λ j is. elim (cases_eq j k) [
-      | inl same ↦ (
-        omega arith,
-        subst (λ i. ¬ (Is (get_or bytes (at + i) 0))) (sym same) out,
-      )
+      | inl same ↦ grind arith
       | inr other ↦
           let old = marks.set j (sym (bit_at_set_other w64 mask k few j other) ∙ is) in
           let short : j < k = old.0 in (omega arith, old.1)
@@ -262,10 +203,4 @@ module _ (Is : ℕ → Type 0) (bytes : List ℕ) (at k mask : ℕ) where
 
   pub mark_none : Marks Is bytes at k mask → Is (get_or bytes (at + k) 0)
       → Marks Is bytes at (k + 1) mask
-  mark_none marks here = record {
-    set = λ j is. let old = marks.set j is in let short : j < k = old.0 in (omega arith, old.1);
-    clear = λ j is l. elim (cases_eq j k) [
-      | inl same ↦ subst (λ i. Is (get_or bytes (at + i) 0)) (sym same) here
-      | inr other ↦ let apart : j ≢ k = other in marks.clear j is (omega arith)
-    ];
-  }
+  mark_none marks here = grind (arith, cases_eq)

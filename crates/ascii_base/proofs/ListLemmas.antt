@@ -1,15 +1,15 @@
 -- Facts on lists alone.
-use Rattle.std.proofs.Common.{◌≡◌, ◌≢◌, ℕ, ◌+◌, ◌-◌, ◌<◌, ◌≤◌, List, [], ◌∷◌, ◌++◌, length}
-use Rattle.std.proofs.Common.{get_or, take, arith, map, reverse, refl, sym, ap, ◌∙◌, None}
-use Rattle.std.proofs.Common.{Option, Some, inl, inr, length-append, subst, suc}
+use Rattle.std.proofs.Common.{◌≡◌, ◌≢◌, ℕ, ◌+◌, ◌-◌, ◌<◌, ◌≤◌, List, [], ◌∷◌, ◌++◌, length, get_or}
+use Rattle.std.proofs.Common.{take, arith, map, reverse, refl, sym, ap, ◌∙◌, None, Option, Some}
+use Rattle.std.proofs.Common.{length-append, subst}
 use Rattle.std.proofs.lemmas.Grind.{common_steps}
-use Rattle.std.proofs.lemmas.List.{map_push, reverse-append, append_assoc, get_or-take}
-use Rattle.std.proofs.lemmas.List.{length-take, take_at}
+use Rattle.std.proofs.lemmas.List.{map_push, reverse-append, append_assoc, get_or-take, length-take}
+use Rattle.std.proofs.lemmas.List.{take_at}
 use Rattle.std.specs.List.{AllZip, slice_range, All, AllWithin, HoldsAt, slice_get}
 use Rattle.std.proofs.Math.Seq.{get_or-append_seam}
 use Rattle.std.proofs.lemmas.List.Elements.{All-cons, All-from_all_within, All-nil, All-push}
 use Rattle.std.proofs.lemmas.Option.{slice_get_cases}
-use Rattle.std.specs.Option.{IsSomeAnd, MatchOption}
+use Rattle.std.specs.Option.{MatchOption}
 use Rattle.ascii_base.specs.First.{IsFirstAt}
 
 -- a byte of `&bytes[s..e]` is the byte of the source s positions later
@@ -36,8 +36,7 @@ map-reverse f (x ∷ xs) = ap (map f) (reverse-append (x ∷ []) xs) ∙ rw map_
 -- all but the last of two items and more
 pub front_is : {X : Type 0} (x y : X) (xs : List X)
     → take (length (x ∷ y ∷ xs) - 1) (x ∷ y ∷ xs) ≡ x ∷ take (length (y ∷ xs) - 1) (y ∷ xs)
-front_is x y xs =
-    grind (arith, common_steps)
+front_is x y xs = grind (arith, common_steps)
 
 -- two lists of any types whose items are related pair by pair, with one more pair
 pub AllZip-push : {A B : Type 0} (R : A → B → Type 0) (xs : List A) (ys : List B) (x : A) (y : B)
@@ -74,8 +73,7 @@ All-from_zip {B = B} R (x ∷ xs) (y ∷ ys) all =
 -- the item moves from the list to the items that were taken
 pub map-push_front : {A B : Type 0} (f : A → B) (taken : List A) (here : A) (rest : List B)
     → map f (taken ++ here ∷ []) ++ rest ≡ map f taken ++ f here ∷ rest
-map-push_front f taken here rest =
-    ap (λ xs. xs ++ rest) (map_push f taken here) ∙ append_assoc (map f taken) (f here ∷ []) rest
+map-push_front f taken here rest = grind (arith, map_push, append_assoc)
 
 -- ---- the first item with a property
 
@@ -88,25 +86,14 @@ slice_get-seam (x ∷ before) after here = slice_get-seam before after here
 pub IsFirstAt-seam : {A : Type 0} (Before Here : A → Type 0) (before after : List A) (here : A)
     → All Before before → Here here → (k : ℕ) → length before ≡ k
     → IsFirstAt Before Here (before ++ here ∷ after) k
-IsFirstAt-seam Before Here before after here each is k long =
-    subst (IsFirstAt Before Here (before ++ here ∷ after)) long (record {
-      here = subst (λ o. IsSomeAnd o Here) (sym (slice_get-seam before after here)) is;
-      before = subst (All Before) (sym (take_at before (here ∷ after) (length before) refl)) each;
-    })
+IsFirstAt-seam Before Here before after here each is k long = grind (arith, slice_get-seam, take_at)
 
 -- the item at a place is the first, as searches say it
 pub IsFirstAt-from_at : {A : Type 0} (Before Here : A → Type 0) (items : List A) (i : ℕ)
     → i < length items → HoldsAt Here items i → AllWithin Before items 0 i
     → IsFirstAt Before Here items i
-IsFirstAt-from_at Before Here items i inside is each = record {
-  here = elim (slice_get_cases items i).1 [
-    | inl at ↦ subst (λ o. IsSomeAnd o Here) (sym at.2) (subst Here at.3 (is at.0))
-    | inr past ↦ absurd (omega (arith, past.0, inside))
-  ];
-  before = λ k d low.
-      let early : k < i = omega (arith, low, length-take i items) in
-      rw (get_or-take i items k d early) (each k d (omega arith) early);
-}
+IsFirstAt-from_at Before Here items i inside is each =
+    grind (arith, slice_get_cases, length-take, get_or-take)
 
 -- the first item with a property, which `find` finds
 pub IsFirstAt-find : {A : Type 0} (Is : A → Type 0) (items : List A) (found : Option A)
@@ -125,15 +112,9 @@ IsFirstAt-find Is items (Some it) first = (
 -- where an item is the first without a property, not all items have it
 pub IsFirstAt-not_all : {A : Type 0} (Is : A → Type 0) (items : List A) (k : ℕ)
     → IsFirstAt Is (λ item. ¬ (Is item)) items k → ¬ (All Is items)
-IsFirstAt-not_all Is items k first all = elim (slice_get_cases items k).1 [
-  | inl at ↦ subst (λ o. IsSomeAnd o (λ item. ¬ (Is item))) at.2 first.here
-      (subst Is at.3 (all k at.0 at.1))
-  | inr past ↦ subst (λ o. IsSomeAnd o (λ item. ¬ (Is item))) past.1 first.here
-]
+IsFirstAt-not_all Is items k first all = grind (arith, slice_get_cases)
 
 -- the last element of a list of two or more is that of the list without the first
 pub last_is : (c d : ℕ) (cs : List ℕ)
     → get_or (c ∷ d ∷ cs) (length (c ∷ d ∷ cs) - 1) 0 ≡ get_or (d ∷ cs) (length (d ∷ cs) - 1) 0
-last_is c d cs =
-    let n : length (c ∷ d ∷ cs) - 1 ≡ suc (length (d ∷ cs) - 1) = omega arith in
-    ap (λ m. get_or (c ∷ d ∷ cs) m 0) n
+last_is c d cs = grind arith

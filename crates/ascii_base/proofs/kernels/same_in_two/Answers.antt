@@ -11,10 +11,4 @@ eq_lanes-requires-then-eq_lanes-clause-before g c = elim c.if-at-last.branch [
 ]
 
 pub returns-else-eq_lanes : goal.returns-else-eq_lanes
-returns-else-eq_lanes g c = (
-  (λ yes. absurd (search (rules, yes))),
-  (λ e. elim c.if-at-last.branch [
-    | then-at-last w ↦ search rules
-    | else-at-last w ↦ let same = w.eq_lanes.ensures.1 (same_front _ _ _ e) in search (rules, same)
-  ]),
-)
+returns-else-eq_lanes g c = grind (arith, then-at-last, else-at-last, same_front)

@@ -13,5 +13,4 @@ returns g c =
     let told = no_mark (chunk at n xs) (chunk at n ys) n (length-chunk at n xs (omega arith))
     (length-chunk at n ys (omega arith)) c.requires.lanes
     (chunk-fits w8 at n xs c.type_inv.first) (chunk-fits w8 at n ys c.type_inv.second) in
-    let more = same_more xs ys at n c.requires.before in
-    (λ t. more.0 (told.0 t), λ e. told.1 (more.1 e))
+    grind (arith, same_more)

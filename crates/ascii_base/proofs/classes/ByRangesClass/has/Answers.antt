@@ -1,6 +1,5 @@
-use Rattle.std.proofs.Common.{ap, sym, ◌∙◌, get_or, leb, ◌&&◌, ◌||◌}
+use Rattle.std.proofs.Common.{ap, sym, ◌∙◌, get_or, leb, ◌&&◌, ◌||◌, arith}
 use Rattle.std.proofs.lemmas.List.{take_all}
-use Rattle.ascii_base.specs.Class.{in_ranges}
 use Rattle.ascii_base.proofs.RangesLemmas.{in_ranges_more}
 use Rattle.ascii_base.proofs.classes.ByRangesClass.has.Goals as goal
 
@@ -12,8 +11,4 @@ loop-low-preserved g c =
     c.loop-low-test.true)
 
 pub returns : goal.returns
-returns g c =
-    let all = ap (λ r. in_ranges r c.args.byte)
-    (take_all c.loop-low.low-index c.ranges-low-items.result.now c.loop-low-test.false
-    ∙ c.ranges-low-items.ensures) in
-    rw (c.loop-low.invariant ∙ all) (g.met.R.Ranges.matches c.args.byte)
+returns g c = grind (arith, take_all)

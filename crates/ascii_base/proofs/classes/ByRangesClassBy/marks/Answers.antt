@@ -1,6 +1,8 @@
-use Rattle.std.proofs.Common.{ℕ, ap, ◌∙◌, get_or, leb, eqb, not, cond, map, bit_and, bit_or, Bool, ◌-◌}
+use Rattle.std.proofs.Common.{arith, ℕ, ◌∙◌, get_or, leb, eqb, not, cond, bit_and, bit_or, Bool}
+use Rattle.std.proofs.Common.{◌-◌}
 use Rattle.std.proofs.lemmas.List.{take_all}
-use Rattle.std.proofs.lemmas.Simd.{splat_is_map, zip2_of_maps, zip2_splat, zip2_splat_left, length-chunk, map-map}
+use Rattle.std.proofs.lemmas.Simd.{splat_is_map, zip2_of_maps, zip2_splat, zip2_splat_left}
+use Rattle.std.proofs.lemmas.Simd.{length-chunk, map-map}
 use lib.Lanes.{chunk}
 use Rattle.ascii_base.specs.Class.{in_ranges}
 use Rattle.ascii_base.proofs.LanesLemmas.{marks_by}
@@ -22,8 +24,7 @@ loop-low-preserved g c =
     let long = length-chunk c.args.at n c.args.bytes.now c.requires.room in
     let items = c.ranges-low-items.result.now in
     let r = get_or items c.loop-low.low-index (0, 0) in
-    zip2_of_maps bit_or _ _ v c.loop-low.invariant
-    (zip2_of_maps bit_and _ _ v
+    zip2_of_maps bit_or _ _ v c.loop-low.invariant (zip2_of_maps bit_and _ _ v
     (zip2_splat_left {Y = ℕ} (λ a b. cond (leb a b) 255 0) r.0 n v long)
     (zip2_splat {Y = ℕ} (λ a b. cond (leb a b) 255 0) v n r.1 long))
     ∙ masks_more items c.loop-low.low-index c.loop-low-test.true v
@@ -41,6 +42,4 @@ returns g c =
     (λ x. is_within (test x) (g.R.Ranges.set x) (g.met.R.Ranges.matches x))
     (λ x. 255 - cond (test x) 255 0) (λ x less. flipped (test x))
     c.args.bytes.now c.args.at g.row.N c.requires.room c.requires.lanes c.type_inv.bytes _
-    (ap (map (λ a. 255 - a)) (c.loop-low.invariant
-    ∙ ap (λ r. map (λ x. cond (in_ranges r x) 255 0) v) all)
-    ∙ map-map (λ a. 255 - a) (λ x. cond (test x) 255 0) v)
+    (grind (arith, map-map))
