@@ -1,8 +1,7 @@
 -- What a bounded run has read and written, part by part.
 use Rattle.std.proofs.Common.{◌≢◌, ◌≡◌, ◌+◌, ◌-◌, ◌<◌, ◌≤◌, ◌^◌, ℕ, List, [], ◌++◌, length, false}
-use Rattle.std.proofs.Common.{take, drop, arith, length-take-le}
-use Rattle.std.proofs.Common.{ap, sym, subst, ◌∙◌, append-nil, length-append, inl, inr, refl}
-use Rattle.std.proofs.Common.{append_assoc, take-append-drop, take_all}
+use Rattle.std.proofs.Common.{take, drop, arith, length-take-le, ap, sym, subst, ◌∙◌, append-nil}
+use Rattle.std.proofs.Common.{length-append, inl, inr, append_assoc, take-append-drop, take_all}
 use Rattle.std.proofs.Math.Seq.{take-append-add}
 use Rattle.std.proofs.lemmas.Bool.{cases_lt}
 use Rattle.std.proofs.lemmas.List.{get_or-append-add, get_or_append_left, get_or-append_right}
@@ -20,8 +19,7 @@ use Rattle.ascii_devices.specs.States.{Gives, Takes}
 use Rattle.ascii_devices.specs.declared.Sink as sink
 use Rattle.ascii_devices.specs.declared.Source as source
 use Rattle.ascii_run.specs.declared.bounded.BoundedMode.{BoundedMode}
-use Rattle.ascii_run.specs.declared.bounded.BoundedMode.TheVariants.{Copy, Lines, Caret, Json}
-use Rattle.ascii_run.specs.declared.bounded.BoundedMode.TheVariants.{Upper, Lower, Escape, Lossy}
+use Rattle.ascii_run.specs.declared.bounded.BoundedMode.TheVariants.{Lines}
 use Rattle.ascii_run.specs.declared.faults.BoundedFault.{BoundedFault}
 use Rattle.ascii_run.specs.declared.faults.BoundedFault.TheVariants.{NotAscii, TooLong, Memory}
 use Rattle.ascii_run.specs.declared.faults.BoundedFault.TheVariants.{Read, Write}
@@ -29,8 +27,8 @@ use Rattle.ascii_run.specs.Bounded.{BoundedOutcome, CountsReads, IsCutAt}
 use Rattle.ascii_run.specs.FrontOutput.{PassesOn, StopsWith, TakesFront}
 use Rattle.ascii_run.specs.Reading.{GivesAll}
 use Rattle.ascii_run.proofs.OutputBufferLemmas.{Runs}
-use Rattle.ascii_run.specs.Streamed.{IsCutOutput, IsInput, IsWholeOutput, cut_off, front}
-use Rattle.ascii_run.specs.Streamed.{last_after, stream, takes_all}
+use Rattle.ascii_run.specs.Streamed.{IsInput, IsWholeOutput, cut_off, front, last_after, stream}
+use Rattle.ascii_run.specs.Streamed.{takes_all}
 use Rattle.ascii_run.proofs.StreamedLemmas.{front_more, front_start, is_cut, is_whole, last_more}
 
 -- ---- the output and the input of a mode
@@ -39,14 +37,11 @@ use Rattle.ascii_run.proofs.StreamedLemmas.{front_more, front_start, is_cut, is_
 pub part_more : (mode state : BoundedMode) (last : ℕ) (done part : List ℕ) → state ≡ mode
     → last ≡ last_after 10 done
     → front (stream mode) done ++ (stream state).part last part ≡ front (stream mode) (done ++ part)
-part_more mode state last done part is at =
-    ap (λ m. front (stream mode) done ++ (stream m).part last part) is
-    ∙ (ap (λ n. front (stream mode) done ++ (stream mode).part n part) at ∙ front_more mode done part)
+part_more mode state last done part is at = grind (arith, front_more)
 
 pub last_kept : (last before : ℕ) (done part : List ℕ) → last ≡ last_after before part
     → before ≡ last_after 10 done → last ≡ last_after 10 (done ++ part)
-last_kept last before done part is at =
-    is ∙ (ap (λ n. last_after n part) at ∙ last_more 10 done part)
+last_kept last before done part is at = grind (arith, before, last_more)
 
 -- an input and more of it
 IsInput-append : (mode : BoundedMode) (xs ys : List ℕ) → IsInput mode xs → IsInput mode ys
@@ -59,8 +54,7 @@ cut_at : (mode : BoundedMode) (done part : List ℕ) (n : ℕ) → IsInput mode 
     → IsCutAt mode (done ++ part) (done ++ take n part) (cut_off (stream mode) (done ++ take n part))
 cut_at mode done part n input more = record {
   others = drop n part;
-  front = sym (append_assoc done (take n part) (drop n part)
-      ∙ ap (λ xs. done ++ xs) (take-append-drop n part));
+  front = grind (arith, append_assoc, take-append-drop);
   input = IsInput-append mode done (take n part) input more;
   output_of = is_cut mode (done ++ take n part);
 }
@@ -68,41 +62,22 @@ cut_at mode done part n input more = record {
 -- all that was read is an input
 cut_all : (mode : BoundedMode) (done : List ℕ) → IsInput mode done
     → IsCutAt mode done done (cut_off (stream mode) done)
-cut_all mode done input = record {
-  others = [];
-  front = sym (append-nil done);
-  input = input;
-  output_of = is_cut mode done;
-}
+cut_all mode done input = grind (arith, append-nil, is_cut)
 
 -- only `Lines` writes something then
 cut_of_lines : (mode : BoundedMode) (last : ℕ) → (stream mode).cut last ≢ [] → mode ≡ Lines
-cut_of_lines Copy last some = absurd (some refl)
-cut_of_lines Lines last some = refl
-cut_of_lines Caret last some = absurd (some refl)
-cut_of_lines Json last some = absurd (some refl)
-cut_of_lines Upper last some = absurd (some refl)
-cut_of_lines Lower last some = absurd (some refl)
-cut_of_lines Escape last some = absurd (some refl)
-cut_of_lines Lossy last some = absurd (some refl)
+cut_of_lines mode last some = grind arith
 
 -- the first non-ASCII byte after a text
 pub first_after : (done part : List ℕ) (place : ℕ) → IsAscii done
     → FirstOther part 0 (length part) place
     → FirstOther (done ++ part) 0 (length (done ++ part)) (length done + place)
-first_after done part place ascii first = record {
-  at_least = omega arith;
-  inside = omega (arith, first.inside, length-append done part);
-  other = λ low. first.other (subst (λ c. c < 128) (get_or-append-add done part place 0) low);
-  least = least;
-}
+first_after done part place ascii first = grind (arith, length-append, get_or-append-add, least)
   where
     least : (k : ℕ) → 0 ≤ k → k < length done + place → slice_index (done ++ part) k < 128
     least k low high = elim (cases_lt k (length done)) [
       | inl before ↦ subst (λ c. c < 128) (sym (get_or_append_left done part 0 k before)) (ascii k)
-      | inr behind ↦
-          subst (λ c. c < 128) (sym (get_or-append_right done part (length done) k 0 refl behind))
-          (first.least (k - length done) (omega arith) (omega (arith, high, behind)))
+      | inr behind ↦ grind (arith, get_or-append_right)
     ]
 
 -- ---- over a source and a sink
@@ -133,17 +108,12 @@ module _ {S K : Type 0} (source : source.Ghosts S) (sink : sink.Ghosts K) where
   -- what an error of the output says
   pub prefix_written : (bytes : List ℕ) (a b : K) (fault : BoundedFault)
       → PassesOn sink bytes a b (Err fault) → TakesFront sink a b bytes
-  prefix_written bytes a b Write passes = passes.0
-  prefix_written bytes a b (NotAscii n) passes = absurd passes
-  prefix_written bytes a b TooLong passes = absurd passes
-  prefix_written bytes a b Memory passes = absurd passes
-  prefix_written bytes a b Read passes = absurd passes
+  prefix_written bytes a b fault passes = grind arith
 
   -- the opening was written
   pub opened : (mode state : BoundedMode) (a b : K) → state ≡ mode
       → Takes sink a b (stream state).opening → Takes sink a b (front (stream mode) [])
-  opened mode state a b is =
-      subst (Takes sink a b) (ap (λ m. (stream m).opening) is ∙ sym (front_start mode))
+  opened mode state a b is = grind (arith, front_start)
 
   -- a part was written
   pub part_written : (mode state : BoundedMode) (last : ℕ) (a b c : K)
@@ -159,8 +129,7 @@ module _ {S K : Type 0} (source : source.Ghosts S) (sink : sink.Ghosts K) where
   -- a part of which all was taken
   pub whole_part : (r t : S) (done part : List ℕ) (n : ℕ) → length part ≤ n
       → Gives source r t (done ++ part) → Gives source r t (done ++ take n part)
-  whole_part r t done part n long =
-      subst (λ xs. Gives source r t (done ++ xs)) (sym (take_all n part long))
+  whole_part r t done part n long = grind (arith, take_all)
 
   -- ---- a write failed
 
@@ -168,16 +137,14 @@ module _ {S K : Type 0} (source : source.Ghosts S) (sink : sink.Ghosts K) where
   write_fails : (mode : BoundedMode) (r t : S) (a c : K) (given text : List ℕ)
       → Gives source r t given → IsCutAt mode given text (cut_off (stream mode) text)
       → TakesFront sink a c (cut_off (stream mode) text) → BoundedRun mode (Err Write) r t a c
-  write_fails mode r t a c given text gives cut (sent, others, took, is) =
-      (given, sent, gives, took, (others, inl (text, subst (IsCutAt mode given text) (sym is) cut)))
+  write_fails mode r t a c given text gives cut is = grind arith
 
   -- at the opening
   pub opening_fails : (mode state : BoundedMode) (r : S) (a b : K) → state ≡ mode
       → TakesFront sink a b (stream state).opening → BoundedRun mode (Err Write) r r a b
   opening_fails mode state r a b is wrote =
       write_fails mode r r a b [] [] (Gives-nil source r) (cut_all mode [] (λ ascii. IsAscii-nil))
-      (TakesFront-more a b (front (stream mode) []) ((stream mode).cut 10)
-      (subst (TakesFront sink a b) (ap (λ m. (stream m).opening) is ∙ sym (front_start mode)) wrote))
+      (grind (arith, TakesFront-more, front_start))
 
   -- at a part
   pub part_fails : (mode state : BoundedMode) (last : ℕ) (r t : S) (a b c : K)
@@ -210,15 +177,13 @@ module _ {S K : Type 0} (source : source.Ghosts S) (sink : sink.Ghosts K) where
       before = front (stream mode) text
 
       cut_is : before ++ (stream state).cut last ≡ cut_off (stream mode) text
-      cut_is = ap (λ m. before ++ (stream m).cut last) is
-          ∙ ap (λ k. before ++ (stream mode).cut k) at
+      cut_is = grind (arith, before)
 
       by_stop : StopsWith sink fault ((stream state).cut last) b c result
           → BoundedRun mode (Err result) r t a c
       by_stop (inl (same, took, count)) =
           subst (λ e. BoundedRun mode (Err e) r t a c) (sym same)
-          (stands (subst (Takes sink a c) cut_is
-          (Takes-trans sink a b c before ((stream state).cut last) wrote took)))
+          (grind (arith, cut_is, Takes-trans, before))
       by_stop (inr (same, some, took, count)) =
           subst (λ e. BoundedRun mode (Err e) r t a c) (sym same)
           (fails (subst (TakesFront sink a c) cut_is
@@ -239,11 +204,7 @@ module _ {S K : Type 0} (source : source.Ghosts S) (sink : sink.Ghosts K) where
   pub reads_counted : (mode state : BoundedMode) (last : ℕ) (a b : K) (old new : ℕ)
       (result : BoundedFault) → state ≡ mode → StopsWith sink Read ((stream state).cut last) a b result
       → new ≡ old + 1 → CountsReads mode (Err result) old new
-  reads_counted mode state last a b old new result is (inl (same, took, count)) more =
-      subst (λ e. CountsReads mode (Err e) old new) (sym same) more
-  reads_counted mode state last a b old new result is (inr (same, some, took, count)) more =
-      subst (λ e. CountsReads mode (Err e) old new) (sym same)
-      (inr (subst (λ m. m ≡ Lines) is (cut_of_lines state last some), more))
+  reads_counted mode state last a b old new result is given more = grind (arith, cut_of_lines)
 
   -- the text is too long
   pub too_long : (mode state : BoundedMode) (last : ℕ) (r t : S) (a b c : K)
@@ -256,8 +217,7 @@ module _ {S K : Type 0} (source : source.Ghosts S) (sink : sink.Ghosts K) where
       more wrote stops =
       let text = done ++ take n part in
       let cut = cut_at mode done part n input more in
-      let enough : 2 ^ 64 ≤ length text =
-      omega (arith, long, far, length-append done (take n part), length-take-le n part within) in
+      let enough : 2 ^ 64 ≤ length text = grind (arith, length-append, length-take-le) in
       stopped mode state last r t a b c text TooLong result is at wrote stops
       (λ took. (done ++ part, cut_off (stream mode) text, gives, took, (text, cut, enough)))
       (write_fails mode r t a c (done ++ part) text gives cut)
@@ -277,21 +237,9 @@ module _ {S K : Type 0} (source : source.Ghosts S) (sink : sink.Ghosts K) where
       let text = done ++ take n part in
       let output = cut_off (stream mode) text in
       let place : next ≡ length done + n = sum ∙ ap (λ k. k + n) (sym long) in
-      let front_is : take next bytes ≡ text =
-      ap (λ k. take k bytes) place ∙ take-append-add done part n in
+      let front_is : take next bytes ≡ text = grind (arith, take-append-add) in
       stopped mode state last r t a b c text (NotAscii next) result is at wrote stops
-      (λ took. (
-        bytes,
-        output,
-        gives,
-        took,
-        (
-          only,
-          subst (FirstOther bytes 0 (length bytes)) (sym place)
-              (first_after done part n (input only) other),
-          subst (λ xs. IsCutOutput mode xs output) (sym front_is) (is_cut mode text),
-        ),
-      ))
+      (grind (arith, output, first_after done part n (input only) other, is_cut mode text))
       (write_fails mode r t a c bytes text gives (cut_at mode done part n input more))
 
   -- ---- at the end of the input
@@ -311,8 +259,7 @@ module _ {S K : Type 0} (source : source.Ghosts S) (sink : sink.Ghosts K) where
       output = before ++ (stream mode).closing (last_after 10 done)
 
       ends : before ++ (stream state).closing last ≡ output
-      ends = ap (λ m. before ++ (stream m).closing last) is
-          ∙ ap (λ k. before ++ (stream mode).closing k) at
+      ends = grind (arith, before)
 
       all : GivesAll source r t done
       all = subst (GivesAll source r t) (ap (λ k. done ++ take k buf) none ∙ append-nil done) (gave, end)
@@ -340,17 +287,11 @@ module _ {S K : Type 0} (source : source.Ghosts S) (sink : sink.Ghosts K) where
               inr (all.1, input, subst (IsWholeOutput mode done) (sym whole) (is_whole mode done)),
             ),
           )
-      by_result (Err (NotAscii k)) passes = absurd passes
-      by_result (Err TooLong) passes = absurd passes
-      by_result (Err Memory) passes = absurd passes
-      by_result (Err Read) passes = absurd passes
+      by_result result passes = grind arith
 
   -- ---- an allocation failed before the first read
 
   pub no_run : (mode : BoundedMode) (r : S) (a : K)
       (result : Result (Unit {0}) BoundedFault)
       → IsErr result × IsErrAnd result (λ fault. fault ≡ Memory) → BoundedRun mode result r r a a
-  no_run mode r a (Ok _) fails = absurd fails.1
-  no_run mode r a (Err fault) fails =
-      subst (λ e. BoundedRun mode (Err e) r r a a) (sym fails.1)
-      ([], [], Gives-nil source r, Takes-nil sink a, (refl, refl))
+  no_run mode r a result fails = grind (arith, Gives-nil source r, Takes-nil sink a)

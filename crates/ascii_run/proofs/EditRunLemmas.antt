@@ -27,11 +27,9 @@ pub edits_ok : (k : ℕ) (t : List ℕ) (cmds : List Cmd) (output : List ℕ)
     → edits k t cmds ≡ Ok output → IsPlainText cmds t output
 edits_ok k t [] output is = (All-nil IsNoFault, cc)
 edits_ok k t (c ∷ cmds) output is = elim (means t c) [
-  | inl (none, _) ↦
-      let other = rw none at is in absurd cc
+  | inl (none, _) ↦ grind arith
   | inr (some, fine) ↦
-      let later = edits_ok (k + 1) (after t c) cmds output (rw some at is) in
-      (All-cons IsNoFault (answer t c) (plain_replies (after t c) cmds) fine later.0, later.1)
+      grind (arith, All-cons, edits_ok (k + 1) (after t c) cmds output (rw some at is))
 ]
 
 -- and the other way round
@@ -39,8 +37,7 @@ pub ok_edits : (k : ℕ) (t : List ℕ) (cmds : List Cmd) (output : List ℕ)
     → IsPlainText cmds t output → edits k t cmds ≡ Ok output
 ok_edits k t [] output (none, is) = ap Ok (sym is)
 ok_edits k t (c ∷ cmds) output (none, is) = elim (means t c) [
-  | inl (_, fault) ↦
-      absurd (All-head IsNoFault (answer t c) (plain_replies (after t c) cmds) none fault)
+  | inl (_, fault) ↦ grind (arith, All-head)
   | inr (some, _) ↦ rw some (ok_edits (k + 1) (after t c) cmds output
       (All-tail IsNoFault (answer t c) (plain_replies (after t c) cmds) none, is))
 ]
@@ -50,18 +47,12 @@ pub edits_err : (k : ℕ) (t : List ℕ) (cmds : List Cmd) (n : ℕ)
     → edits k t cmds ≡ Err n → (j : ℕ) × (n ≡ k + j) × IsPlainFault t cmds j
 edits_err k t [] n is = absurd cc
 edits_err k t (c ∷ cmds) n is = elim (means t c) [
-  | inl (none, fault) ↦
-      let here : n ≡ k = let h = rw none at is in cc in
-      (0, omega (arith, here), record { here = fault; before = All-nil IsNoFault })
+  | inl (none, fault) ↦ grind (arith, All-nil)
   | inr (some, fine) ↦
       let later = edits_err (k + 1) (after t c) cmds n (rw some at is) in (
         suc later.0,
         omega (arith, later.1),
-        record {
-          here = later.2.here;
-          before = All-cons IsNoFault (answer t c)
-              (take later.0 (plain_replies (after t c) cmds)) fine later.2.before;
-        },
+        grind (arith, All-cons),
       )
 ]
 
@@ -69,10 +60,7 @@ edits_err k t (c ∷ cmds) n is = elim (means t c) [
 pub err_edits : (k : ℕ) (t : List ℕ) (cmds : List Cmd) (j : ℕ)
     → IsPlainFault t cmds j → edits k t cmds ≡ Err (k + j)
 err_edits k t [] j place = absurd place.here
-err_edits k t (c ∷ cmds) zero place = elim (means t c) [
-  | inl (none, _) ↦ rw none (ap Err (let same : k ≡ k + 0 = omega arith in same))
-  | inr (_, fine) ↦ absurd (fine place.here)
-]
+err_edits k t (c ∷ cmds) zero place = grind (arith, means)
 err_edits k t (c ∷ cmds) (suc j) place =
     let replies = take j (plain_replies (after t c) cmds) in
     elim (means t c) [
@@ -112,9 +100,7 @@ pub Run-stops : {A : Type 0} (sure k : ℕ) (t : List ℕ) (cmds : List Cmd) (re
 Run-stops sure k t [] [] t2 j run first = absurd first.here
 Run-stops sure k t [] (r ∷ replies) t2 j run first = absurd run
 Run-stops sure k t (cmd ∷ cmds) [] t2 j run first = absurd run
-Run-stops sure k t (cmd ∷ cmds) (r ∷ replies) t2 zero run first =
-    let same : k ≡ k + 0 = omega arith in
-    rw (rejected_by sure t cmd (value_of_reply r) run.0 run.1 first.here) (ap Err same)
+Run-stops sure k t (cmd ∷ cmds) (r ∷ replies) t2 zero run first = grind (arith, rejected_by)
 Run-stops sure k t (cmd ∷ cmds) (r ∷ replies) t2 (suc j) run first =
     let here = All-head GoesOn r (take j replies) first.before in
     let same : (k + 1) + j ≡ k + suc j = omega arith in

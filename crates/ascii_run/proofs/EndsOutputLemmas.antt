@@ -1,6 +1,6 @@
 -- The output of a script of ends: one more answer, and the output of a mode.
-use Rattle.std.proofs.Common.{◌≡◌, ℕ, ◌+◌, ◌-◌, ◌<◌, ◌≤◌, List, [], ◌∷◌, ◌++◌, length, get_or, take, drop}
-use Rattle.std.proofs.Common.{Option, Some, None, map, sym, ap, ◌∙◌, append-nil, refl, arith}
+use Rattle.std.proofs.Common.{◌≡◌, ℕ, ◌+◌, ◌-◌, ◌<◌, ◌≤◌, List, [], ◌∷◌, ◌++◌, length, get_or, take}
+use Rattle.std.proofs.Common.{drop, Option, Some, map, ap, ◌∙◌, append-nil, refl, arith}
 use Rattle.std.specs.List.{flat_map}
 use Rattle.std.specs.Option.{option_map}
 use Rattle.std.specs.Borrow.{Bor}
@@ -11,15 +11,14 @@ use Rattle.std.proofs.lemmas.List.Folds.{flat_map-map}
 use Rattle.std.proofs.lemmas.Option.{slice_get-map}
 use Rattle.std.proofs.lemmas.Simd.{map-map}
 use Rattle.ascii.specs.Lines.{Line}
-use Rattle.ascii.specs.Spans.{LineSpansOf, WithStart, items_of}
+use Rattle.ascii.specs.Spans.{LineSpansOf, WithStart}
 use Rattle.ascii.specs.declared.iter.walks.End.{End}
 use Rattle.ascii.specs.declared.iter.walks.End.TheVariants.{Front, Back}
 use Rattle.ascii.specs.Walks.{ListAnswersTo, TakesEnd}
 use Rattle.ascii.proofs.EndsLemmas.{AnswersTo-all, AnswersTo-step}
 use Rattle.ascii_run.specs.Modes.{IsOutput}
-use Rattle.ascii_run.specs.Modes.Ends.{answer_text, answers, mode_of, shown_text, span_text}
+use Rattle.ascii_run.specs.Modes.Ends.{answers, mode_of, shown_text}
 use Rattle.ascii_run.specs.declared.modes.ends.Shown.{Shown}
-use Rattle.ascii_run.specs.declared.modes.ends.Shown.TheVariants.{Body, Span}
 
 -- the last item of a list, and what is left before it
 pub last_item : {A : Type 0} (front : List A) (x : A)
@@ -32,13 +31,7 @@ taken : {A : Type 0} (end : End) (items : List A) (answer : Option A) (others : 
     (script : List End)
     → TakesEnd end items answer others
     → answers (end ∷ script) items ≡ answer ∷ answers script others
-taken Front items None others script takes = rw (takes.0, takes.1) refl
-taken Front items (Some x) others script takes = rw takes refl
-taken Back items None others script takes = rw (takes.0, takes.1) refl
-taken Back items (Some x) others script takes =
-    let last : length (others ++ x ∷ []) - 1 ≡ length others =
-    omega (arith, length_push others x) in
-    rw (takes, last, last_item others x, take_at others (x ∷ []) (length others) refl) refl
+taken end items answer others script takes = grind (arith, length_push, last_item, take_at)
 
 -- the answers of a list are one list
 pub answers_only : {A : Type 0} (items : List A) (script : List End) (found : List (Option A))
@@ -48,8 +41,7 @@ answers_only items [] [] left to = refl
 answers_only items [] (answer ∷ found) left to = absurd to
 answers_only items (end ∷ script) [] left to = absurd to
 answers_only items (end ∷ script) (answer ∷ found) left to =
-    ap (λ xs. answer ∷ xs) (answers_only to.0 script found left to.2)
-    ∙ sym (taken end items answer to.0 script to.1)
+    grind (arith, taken, answers_only to.0 script found left to.2)
 
 -- the output of the answers so far, and of those that are left
 abbrev pub ShowsSoFar : {A : Type 0} → (Option A → List ℕ) → List A → List End → List ℕ → List A
@@ -69,11 +61,8 @@ module _ {A : Type 0} (shown : Option A → List ℕ) (items left : List A) (scr
   shows_more mid end answer old new inside here so_far takes is =
       let answers = so_far.0 in (
         answers ++ answer ∷ [],
-        AnswersTo-step TakesEnd items mid left script k end answers answer inside here so_far.1
-            takes,
-        is ∙ (ap (λ xs. xs ++ shown answer) so_far.2
-            ∙ (ap (λ xs. flat_map shown answers ++ xs) (sym (append-nil (shown answer)))
-            ∙ sym (flat_map-append shown answers (answer ∷ [])))),
+        grind (arith, AnswersTo-step),
+        grind (arith, append-nil, flat_map-append),
       )
 
   -- the answers to the whole script
@@ -96,27 +85,12 @@ answers-map f (Front ∷ script) items = rw (slice_get-map f items 0, drop-map f
     (ap (λ xs. option_map f (slice_get items 0) ∷ xs) (answers-map f script (drop 1 items)))
 answers-map f (Back ∷ script) items =
     let last = length items - 1 in
-    rw (length-map items f, slice_get-map f items last, take-map f last items)
-    (ap (λ xs. option_map f (slice_get items last) ∷ xs) (answers-map f script (take last items)))
+    grind (arith, length-map, slice_get-map, take-map, answers-map f script (take last items))
 
 -- what is shown of the answers of the lines with their starts is the output of the mode
 pub output_of_mode : (shown : Shown) (script : Bor (List End)) (text : List ℕ)
     (spans : List (WithStart Line)) (output : List ℕ)
     → LineSpansOf 0 text spans → output ≡ flat_map (shown_text shown) (answers script.now spans)
     → IsOutput (mode_of shown script) text output
-output_of_mode Body script text spans output found is =
-    let body : WithStart Line → List ℕ = λ span. span.item.body in (
-      items_of spans,
-      found.lines,
-      is
-          ∙ (sym (flat_map-map answer_text (option_map body) (answers script.now spans))
-          ∙ ap (flat_map answer_text)
-          (sym (answers-map body script.now spans)
-          ∙ ap (answers script.now)
-          (sym (map-map (λ line. line.body) (λ span. span.item) spans)))),
-    )
-output_of_mode Span script text spans output found is = (
-  items_of spans,
-  found.lines,
-  is ∙ ap (λ xs. flat_map span_text (answers script.now xs)) found.starts,
-)
+output_of_mode shown script text spans output found is =
+    grind (arith, flat_map-map, answers-map, map-map)

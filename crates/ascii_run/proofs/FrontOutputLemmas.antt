@@ -1,6 +1,6 @@
 -- What a sink took of the bytes that were appended to an empty buffer before it, once the buffer was
 -- written and the sink flushed.
-use Rattle.std.proofs.Common.{◌≡◌, List, [], ◌++◌, ℕ, Bool, true, false, ap, subst, ◌∙◌}
+use Rattle.std.proofs.Common.{◌≡◌, List, [], ◌++◌, ℕ, Bool, true, false, ap, subst, ◌∙◌, arith}
 use Rattle.std.proofs.Common.{◌+◌, append_assoc}
 use Rattle.std.specs.declared.result.Result.{Result}
 use Rattle.std.specs.declared.result.Result.TheVariants.{Ok, Err}
@@ -32,25 +32,13 @@ module _ {K : Type 0} (says : Ghosts K) (start mid now : K) (empty held left : B
     (
       sent ++ more,
       others,
-      Takes-trans says start mid now sent more
-          (Takes-sent says start mid sent sends.0 sends.1)
+      Takes-trans says start mid now sent more (Takes-sent says start mid sent sends.0 sends.1)
           (Takes-sent says mid now more sends_more.0 sends_more.1),
-      append_assoc sent more others
-          ∙ (ap (λ xs. sent ++ xs) rest_is ∙ all_of sent held.bytes is),
+      grind (arith, append_assoc, all_of),
     ),
     count ∙ ap (λ n. n + 1) same,
   )
-  passed_by true (Ok _) appends ends = absurd ends
-  passed_by true (Err _) ((sent, others, sends, is), count) ((kept, still), same) = (
-    (
-      sent,
-      others,
-      Takes-kept says start mid now sent (Takes-sent says start mid sent sends.0 sends.1) kept
-          still,
-      all_of sent others is,
-    ),
-    same ∙ count,
-  )
+  passed_by true result appends ends = grind (arith, Takes-kept, Takes-sent, all_of)
 
 -- all bytes that were appended, or a prefix of them
 pub passed_on : {K : Type 0} (says : Ghosts K) (start mid now : K) (empty held left : BufferState)
@@ -59,7 +47,4 @@ pub passed_on : {K : Type 0} (says : Ghosts K) (start mid now : K) (empty held l
     → FinishOutcome held.is_broken (output_state says mid held) (output_state says now left) result
     → Passes says bytes start now result
 passed_on says start mid now empty held left bytes result ready appends ends =
-    let q = held.is_broken in
-    passed_by says start mid now empty held left bytes ready.0 q result
-    (subst (λ p. AppendsBy p q (output_state says start empty) (output_state says mid held) bytes)
-    ready.1 appends.by_failure) ends
+    grind (arith, passed_by)

@@ -1,7 +1,6 @@
 -- The compact JSON text of a text is what the toolchain's writer gives, and is itself a text.
-use Rattle.std.proofs.Common.{◌≡◌, ℕ, ◌<◌, List, [], ◌∷◌, ◌++◌, refl, ap, ◌∙◌, sym, arith}
-use Rattle.std.proofs.Common.{append-nil, map, length-append, ◌+◌}
-use Rattle.std.proofs.Common.{subst, nat_lt, Bool, true, ⊎_elim, get_or}
+use Rattle.std.proofs.Common.{◌≡◌, ℕ, ◌<◌, List, [], ◌∷◌, ◌++◌, ap, ◌∙◌, sym, arith, append-nil}
+use Rattle.std.proofs.Common.{map, length-append, ◌+◌, subst, nat_lt, get_or}
 use Rattle.std.proofs.lemmas.Bool.Decides.{nat_tests}
 use Rattle.std.proofs.lemmas.Str.Ascii.{All-from_ascii, IsAscii-from_all}
 use Rattle.std.proofs.lemmas.List.{get_or-map, get_or_append_left, length-map, map-append}
@@ -10,7 +9,7 @@ use Rattle.std.proofs.lemmas.List.Elements.{All-append, All-from_get_or, All-con
 use Rattle.std.proofs.lemmas.List.Elements.{All-nil, All-tail}
 use Rattle.std.proofs.lemmas.Bool.{agree_below_at, cases_lt, ltb-true}
 use Rattle.std.proofs.lemmas.List.Sums.{AllPass-from_list_all}
-use Rattle.std.specs.List.{All, AllPass, flat_map, list_all}
+use Rattle.std.specs.List.{All, flat_map}
 use Rattle.std.specs.Str.{IsAscii}
 use Rattle.json.specs.Print.{escape_byte, print, print_from}
 use Rattle.json.specs.Token.{Token, string}
@@ -22,9 +21,7 @@ unfolding escape_byte
 json_code-is n = grind (arith, nat_tests)
 
 json_codes : (t : List ℕ) → flat_map escape_byte t ≡ flat_map json_code t
-json_codes [] = refl
-json_codes (x ∷ xs) = ap (λ c. c ++ flat_map escape_byte xs) (sym (json_code-is x))
-    ∙ ap (λ cs. json_code x ++ cs) (json_codes xs)
+json_codes t = grind (arith, json_code-is)
 
 -- what the writer prints for a text
 pub print-string : (t : List ℕ) → print (string t ∷ []) ≡ json_text t
@@ -35,12 +32,7 @@ print-string t = append-nil (34 ∷ (flat_map escape_byte t ++ 34 ∷ []))
 -- the bytes of a code in a JSON string are codes
 json_code-ascii : (n : ℕ) → n < 128 → All (λ b. b < 128) (json_code n)
 json_code-ascii n low =
-    let test : ℕ → Bool = λ b. nat_lt b 128 in
-    let pass : AllPass test (json_code n) =
-    AllPass-from_list_all test (json_code n)
-    (agree_below_at (λ c. list_all test (json_code c)) (λ _. true) 128 n refl low) in
-    All-from_get_or (λ b. b < 128) (json_code n) 0
-    (λ k inside. ltb-true (get_or (json_code n) k 0) 128 (pass k 0 inside))
+    grind (arith, nat_lt, AllPass-from_list_all, agree_below_at, All-from_get_or, ltb-true)
 
 json_codes-ascii : (t : List ℕ) → All (λ b. b < 128) t → All (λ b. b < 128) (flat_map json_code t)
 json_codes-ascii [] h = All-nil (λ b. b < 128)
@@ -64,19 +56,13 @@ IsAscii-json_text t h =
 pub printed : (items before : List ℕ) (tokens old : List Token) (t text : List ℕ)
     → items ≡ before ++ print tokens → before ≡ []
     → tokens ≡ old ++ string t ∷ [] → old ≡ [] → t ≡ text → items ≡ json_text text
-printed items before tokens old t text is none held empty same =
-    is ∙ (ap (λ b. b ++ print tokens) none
-    ∙ (ap print (held ∙ ap (λ o. o ++ string t ∷ []) empty)
-    ∙ (print-string t ∙ ap json_text same)))
+printed items before tokens old t text is none held empty same = grind (arith, print-string)
 
 -- the escape of a code, by its place
 pub escape_at : {F : Type 0} (text : F → List ℕ) (escapes : List F) (code : ℕ) (escape : F)
     → AreEscapes 128 (map text escapes) → code < 128
     → escape ≡ get_or escapes code escape → text escape ≡ json_text (code ∷ [])
-escape_at text escapes code escape are low is =
-    ap text is
-    ∙ (sym (get_or-map text escapes code escape [] (omega (arith, length-map escapes text, are.0)))
-    ∙ are.1 code low)
+escape_at text escapes code escape are low is = grind (arith, get_or-map, length-map)
 
 -- one escape more
 pub escape_more : {F : Type 0} (text : F → List ℕ) (escapes : List F) (escape : F) (n : ℕ)
@@ -87,14 +73,9 @@ escape_more text escapes escape n are is =
     let more : map text (escapes ++ escape ∷ []) ≡ texts ++ text escape ∷ [] =
     map-append text escapes (escape ∷ []) in
     let last : get_or (texts ++ text escape ∷ []) n [] ≡ json_text (n ∷ []) =
-    subst (λ k. get_or (texts ++ text escape ∷ []) k [] ≡ json_text (n ∷ [])) are.0
-    (get_or-append_seam texts (text escape) [] [] ∙ is) in
+    grind (arith, get_or-append_seam) in
     subst (AreEscapes (n + 1)) (sym more) (
       omega (arith, length-append texts (text escape ∷ []), are.0),
       λ code low.
-          ⊎_elim (λ below. get_or_append_left texts (text escape ∷ []) [] code
-          (omega (arith, are.0)) ∙ are.1 code below)
-          (λ high. let e : code ≡ n = omega arith in
-          subst (λ k. get_or (texts ++ text escape ∷ []) k [] ≡ json_text (k ∷ [])) (sym e)
-          last) (cases_lt code n),
+          grind (arith, get_or_append_left, cases_lt),
     )

@@ -1,19 +1,17 @@
 -- The output of `lines` as one text: without each CR that is before LF, and with LF after a last
 -- line that has none.
-use Rattle.std.proofs.Common.{append-nil, ◌≡◌, ◌≢◌, ℕ, zero, suc, ◌+◌, ◌-◌, ◌<◌, Bool, true, false}
-use Rattle.std.proofs.Common.{eqb, cond, ◌&&◌, List, [], ◌∷◌, ◌++◌, length, get_or, take, drop}
-use Rattle.std.proofs.Common.{refl, sym, ap, ◌∙◌, subst, arith, eqb-true, append_assoc, Some}
-use Rattle.std.proofs.Common.{length-drop, inl, inr, ◌⊎◌}
+use Rattle.std.proofs.Common.{append-nil, ◌≡◌, ◌≢◌, ℕ, zero, suc, ◌+◌, ◌-◌, Bool, true, false, eqb}
+use Rattle.std.proofs.Common.{cond, ◌&&◌, List, [], ◌∷◌, ◌++◌, length, get_or, take, drop, refl}
+use Rattle.std.proofs.Common.{sym, ap, ◌∙◌, subst, arith, eqb-true, append_assoc, length-drop, ◌⊎◌}
 use Rattle.std.proofs.lemmas.List.Folds.{flat_map-map}
 use Rattle.std.specs.List.{All, Contains, flat_map}
-use Rattle.std.specs.Prelude.{slice_index}
 use Rattle.std.proofs.lemmas.List.Elements.{All-head, All-tail}
 use Rattle.std.proofs.lemmas.Bool.{false≢true}
 use Rattle.std.proofs.lemmas.Option.{slice_get-get_or}
 use Rattle.std.proofs.Math.Seq.{take-length}
 use Rattle.memchr.specs.Find.{NoneBefore, Nowhere, OccursAt}
 use Rattle.ascii.specs.declared.iter.spans.Ending.{Ending}
-use Rattle.ascii.specs.declared.iter.spans.Ending.TheVariants.{Lf, CrLf, Absent}
+use Rattle.ascii.specs.declared.iter.spans.Ending.TheVariants.{Absent}
 use Rattle.ascii.specs.Found.{HasNo, lines_of}
 use Rattle.ascii.specs.Lines.{EndsInCr, Line, MayFollow, bodies, ending_text, line_text}
 use Rattle.ascii.proofs.LinesLemmas.{LinesOf-lines_of}
@@ -35,20 +33,15 @@ with_line_feeds text = with_feeds and_feed text
 
 neither : (c d : ℕ) (x y : Bool) → eqb c 13 ≡ x → eqb d 10 ≡ y → (c ≡ 13 → d ≡ 10 → ⊥)
     → (x && y) ≡ false
-neither c d true true at_cr at_lf other = absurd (other (eqb-true c 13 at_cr) (eqb-true d 10 at_lf))
-neither c d true false at_cr at_lf other = refl
-neither c d false y at_cr at_lf other = refl
+neither c d x y at_cr at_lf other = grind (arith, eqb-true)
 
 keeps : (last : ℕ → List ℕ) (c d : ℕ) (cs : List ℕ) → (c ≡ 13 → d ≡ 10 → ⊥)
     → with_feeds last (c ∷ d ∷ cs) ≡ c ∷ with_feeds last (d ∷ cs)
-keeps last c d cs other =
-    ap (λ b. cond b (with_feeds last (d ∷ cs)) (c ∷ with_feeds last (d ∷ cs)))
-    (neither c d (eqb c 13) (eqb d 10) refl refl other)
+keeps last c d cs other = grind (arith, neither, eqb)
 
 feed : (last : ℕ → List ℕ) → last 10 ≡ 10 ∷ [] → (t : List ℕ)
     → with_feeds last (10 ∷ t) ≡ 10 ∷ with_feeds last t
-feed last is [] = is
-feed last is (c ∷ cs) = refl
+feed last is t = grind arith
 
 no_feed : (c : ℕ) → eqb c 10 ≡ false → c ≡ 10 → ⊥
 no_feed c other is = false≢true (sym other ∙ ap (λ x. eqb x 10) is)
@@ -61,9 +54,7 @@ last_place c d cs = omega arith
 init_last : (t : List ℕ) → t ≢ [] → take (length t - 1) t ++ get_or t (length t - 1) 0 ∷ [] ≡ t
 init_last [] some = absurd (some refl)
 init_last (c ∷ []) some = refl
-init_last (c ∷ d ∷ cs) some =
-    ap (λ k. take k (c ∷ d ∷ cs) ++ get_or (c ∷ d ∷ cs) k 0 ∷ []) (last_place c d cs)
-    ∙ ap (λ t. c ∷ t) (init_last (d ∷ cs) (λ nil. cc))
+init_last (c ∷ d ∷ cs) some = grind (arith, last_place, init_last (d ∷ cs) (λ nil. cc))
 
 -- ---- the body of a line
 
@@ -96,32 +87,18 @@ alone last (c ∷ e ∷ es) free some =
 
 ends_in_cr : (body : List ℕ) → get_or body (length body - 1) 0 ≡ 13 → EndsInCr body
 ends_in_cr [] is = absurd (omega (arith, is))
-ends_in_cr (c ∷ cs) is =
-    let inside : length (c ∷ cs) - 1 < length (c ∷ cs) = omega arith in
-    slice_get-get_or (c ∷ cs) (length (c ∷ cs) - 1) 0 inside ∙ ap Some is
+ends_in_cr (c ∷ cs) is = grind (arith, slice_get-get_or)
 
 -- ---- a line, and all, where `shown` is what becomes of a line
 
 ended : (last : ℕ → List ℕ) → last 10 ≡ 10 ∷ [] → (body : List ℕ) (ending : Ending) (t : List ℕ)
     → HasNo 10 body → MayFollow ending body → ending ≢ Absent
     → with_feeds last ((body ++ ending_text ending) ++ t) ≡ with_line_feed body ++ with_feeds last t
-ended last is body Lf t free may has =
-    ap (with_feeds last) (append_assoc body (10 ∷ []) t)
-    ∙ (spliced last body 10 t free (λ is_lf at_cr. may (ends_in_cr body at_cr))
-    ∙ (ap (λ xs. body ++ xs) (feed last is t)
-    ∙ sym (append_assoc body (10 ∷ []) (with_feeds last t))))
-ended last is body CrLf t free may has =
-    ap (with_feeds last) (append_assoc body (13 ∷ 10 ∷ []) t)
-    ∙ (spliced last body 13 (10 ∷ t) free (λ is_lf at_cr. absurd (omega (arith, is_lf)))
-    ∙ (ap (λ xs. body ++ xs) (feed last is t)
-    ∙ sym (append_assoc body (10 ∷ []) (with_feeds last t))))
-ended last is body Absent t free may has = absurd (has refl)
+ended last is body ending t free may has = grind (arith, append_assoc, spliced, ends_in_cr, feed)
 
 -- a line without an ending, or with one
 has_ending : (ending : Ending) → (ending ≡ Absent) ⊎ (ending ≢ Absent)
-has_ending Lf = inr (λ none. cc)
-has_ending CrLf = inr (λ none. cc)
-has_ending Absent = inl refl
+has_ending ending = grind arith
 
 module _ (last : ℕ → List ℕ) (is : last 10 ≡ 10 ∷ []) (shown : Line → List ℕ)
     (whole : (line : Line) → line.ending ≢ Absent → shown line ≡ with_line_feed line.body)
@@ -129,16 +106,7 @@ module _ (last : ℕ → List ℕ) (is : last 10 ≡ 10 ∷ []) (shown : Line �
     → with_feeds last line.body ≡ shown line) where
   last_line : (line : Line) → HasNo 10 line.body → MayFollow line.ending line.body
       → with_feeds last (line_text line ++ []) ≡ shown line ++ []
-  last_line line free may = elim (has_ending line.ending) [
-    | inl absent ↦
-        ap (with_feeds last) (append-nil (line_text line)
-        ∙ (ap (λ ending. line.body ++ ending_text ending) absent ∙ append-nil line.body))
-        ∙ (unended line absent free (subst (λ ending. MayFollow ending line.body) absent may)
-        ∙ sym (append-nil (shown line)))
-    | inr has ↦
-        ended last is line.body line.ending [] free may has
-        ∙ ap (λ xs. xs ++ []) (sym (whole line has))
-  ]
+  last_line line free may = grind (arith, has_ending, append-nil, ended)
 
   all_lines : (lines : List Line) → All (λ line. ¬ (Contains line.body 10)) lines
       → All (λ line. MayFollow line.ending line.body) lines
@@ -146,9 +114,7 @@ module _ (last : ℕ → List ℕ) (is : last 10 ≡ 10 ∷ []) (shown : Line �
       → with_feeds last (flat_map line_text lines) ≡ flat_map shown lines
   all_lines [] absent may has = refl
   all_lines (line ∷ []) absent may has =
-      last_line line
-      (HasNo-from_absent 10 line.body
-      (All-head (λ one. ¬ (Contains one.body 10)) line [] absent))
+      last_line line (grind (arith, HasNo-from_absent, All-head))
       (All-head (λ one. MayFollow one.ending one.body) line [] may)
   all_lines (line ∷ next ∷ others) absent may has =
       let NoFeed : Line → Type 0 = λ one. ¬ (Contains one.body 10) in
@@ -159,27 +125,18 @@ module _ (last : ℕ → List ℕ) (is : last 10 ≡ 10 ∷ []) (shown : Line �
       let head = All-head Ended line (take (length (next ∷ others) - 1) (next ∷ others)) front in
       ended last is line.body line.ending (flat_map line_text (next ∷ others))
       (HasNo-from_absent 10 line.body (All-head NoFeed line (next ∷ others) absent))
-      (All-head MayEnd line (next ∷ others) may) head
-      ∙ ((λ k. sym (whole line head) k
-      ++ with_feeds last (flat_map line_text (next ∷ others)))
-      ∙ ap (λ xs. shown line ++ xs)
+      (All-head MayEnd line (next ∷ others) may) head ∙ ((grind arith) ∙ ap (λ xs. shown line ++ xs)
       (all_lines (next ∷ others) (All-tail NoFeed line (next ∷ others) absent)
       (All-tail MayEnd line (next ∷ others) may)
       (All-tail Ended line (take (length (next ∷ others) - 1) (next ∷ others)) front)))
 
   shows : (t : List ℕ) → with_feeds last t ≡ flat_map shown (lines_of t)
-  shows t =
-      let lines = LinesOf-lines_of t in
-      ap (with_feeds last) (sym lines.joined)
-      ∙ all_lines (lines_of t) lines.bodies lines.endings lines.ended
+  shows t = grind (arith, LinesOf-lines_of t, all_lines)
 
 not_feed : (body : List ℕ) → HasNo 10 body → body ≢ []
     → eqb (get_or body (length body - 1) 0) 10 ≡ false
 not_feed [] free some = absurd (some refl)
-not_feed (c ∷ []) free some = All-head (λ code. eqb code 10 ≡ false) c [] free
-not_feed (c ∷ e ∷ es) free some =
-    ap (λ code. eqb code 10) (last_is c e es)
-    ∙ not_feed (e ∷ es) (All-tail (λ code. eqb code 10 ≡ false) c (e ∷ es) free) (λ none. cc)
+not_feed body free some = grind (arith, All-head, eqb, last_is, All-tail)
 
 -- a last line that has no ending
 open_end : (body : List ℕ) → HasNo 10 body → body ≢ [] → with_line_feeds body ≡ with_line_feed body
@@ -194,20 +151,13 @@ open_end body free some =
 -- it is the output of `lines`
 pub ShowsLines-feeds : (t : List ℕ)
     → ShowsLines (λ lines. flat_map with_line_feed (bodies lines)) t (with_line_feeds t)
-ShowsLines-feeds t = (
-  lines_of t,
-  LinesOf-lines_of t,
-  shows and_feed refl (λ line. with_line_feed line.body) (λ line has. refl)
-      (λ line absent free some. open_end line.body free some) t
-      ∙ sym (flat_map-map with_line_feed (λ line. line.body) (lines_of t)),
-)
+ShowsLines-feeds t = grind (arith, LinesOf-lines_of t, shows, open_end, flat_map-map)
 
 -- a text, by whether its last code is CR
 without_by : (t : List ℕ) → t ≢ [] → (b : Bool) → eqb (get_or t (length t - 1) 0) 13 ≡ b
     → take (length t - 1) t ++ cond b [] (get_or t (length t - 1) 0 ∷ [])
     ≡ cond b (take (length t - 1) t) t
-without_by t some true is = append-nil (take (length t - 1) t)
-without_by t some false is = init_last t some
+without_by t some b is = grind (arith, append-nil, init_last)
 
 -- what is written of a text before more is read, as one text
 abbrev pub front_feeds : List ℕ → List ℕ
@@ -221,27 +171,14 @@ end = 13 ∷ 10 ∷ []
 
 -- CR LF at the front
 at_front : (c d : ℕ) (cs : List ℕ) → c ≡ 13 → d ≡ 10 → OccursAt (c ∷ d ∷ cs) end 0
-at_front c d cs at_cr at_lf = record { fits = omega arith; reads = reads }
-  where
-    reads : (j : ℕ) → j < length end → slice_index (c ∷ d ∷ cs) (0 + j) ≡ slice_index end j
-    reads zero inside = at_cr
-    reads (suc zero) inside = at_lf
-    reads (suc (suc j)) inside = absurd (omega (arith, inside))
+at_front c d cs at_cr at_lf = grind arith
 
 -- CR LF one place on
 later : (c : ℕ) (t : List ℕ) (k : ℕ) → OccursAt (c ∷ t) end (suc k) → OccursAt t end k
-later c t k occurs = record {
-  fits = omega (arith, occurs.fits);
-  reads = λ j inside. let n : suc (k + j) ≡ suc k + j = omega arith in
-      ap (slice_index (c ∷ t)) n ∙ occurs.reads j inside;
-}
+later c t k occurs = grind arith
 
 before : (c : ℕ) (t : List ℕ) (k : ℕ) → OccursAt t end k → OccursAt (c ∷ t) end (suc k)
-before c t k occurs = record {
-  fits = omega (arith, occurs.fits);
-  reads = λ j inside. let n : suc k + j ≡ suc (k + j) = omega arith in
-      ap (slice_index (c ∷ t)) n ∙ occurs.reads j inside;
-}
+before c t k occurs = grind arith
 
 -- up to the CR of the first CR LF
 run_before : (last : ℕ → List ℕ) (t : List ℕ) (k : ℕ)
@@ -252,9 +189,7 @@ run_before last (c ∷ []) k none at = absurd (omega (arith, at.fits))
 run_before last (c ∷ d ∷ cs) zero none at =
     let at_cr : c ≡ 13 = at.reads 0 (omega arith) in
     let at_lf : d ≡ 10 = at.reads 1 (omega arith) in
-    ap (λ x. with_feeds last (x ∷ d ∷ cs)) at_cr
-    ∙ (ap (λ x. with_feeds last (13 ∷ x ∷ cs)) at_lf
-    ∙ ap (λ x. with_feeds last (x ∷ cs)) (sym at_lf))
+    grind arith
 run_before last (c ∷ d ∷ cs) (suc k) none at =
     keeps last c d cs
     (λ at_cr at_lf. none 0 (omega arith) (omega arith) (at_front c d cs at_cr at_lf))
@@ -274,13 +209,7 @@ pub run_more : (text done t needle run behind : List ℕ) (k : ℕ) → needle �
 run_more text done t needle run behind k is found front back held last =
     let here = subst (λ n. NoneBefore (OccursAt t n) 0 (length t + 1) k × OccursAt t n k) is
     found in
-    let rest : take (length behind - 1) (drop 1 behind) ≡ drop 1 (drop k t) =
-    ap (λ n. take n (drop 1 behind)) (sym (length-drop 1 behind))
-    ∙ (take-length (drop 1 behind) ∙ ap (λ xs. drop 1 xs) back) in
-    append_assoc done run (with_feeds last (take (length behind - 1) (drop 1 behind)))
-    ∙ (ap (λ xs. done ++ (run ++ with_feeds last xs)) rest
-    ∙ (ap (λ xs. done ++ (xs ++ with_feeds last (drop 1 (drop k t)))) front
-    ∙ (ap (λ xs. done ++ xs) (sym (run_before last t k here.0.before here.1)) ∙ held last)))
+    grind (arith, length-drop 1 behind, take-length (drop 1 behind), append_assoc, run_before)
 
 -- a rest without CR LF
 rest_by_end : (last : ℕ → List ℕ) (t : List ℕ) → t ≢ []
@@ -314,6 +243,4 @@ pub part_of_lines : (before : ℕ) (part held done rest last : List ℕ) → fal
     → last ≡ without_last_cr rest → (held ++ done) ++ last ≡ lines_part before part
 part_of_lines before [] held done rest last some held_is segment last_is = absurd (false≢true some)
 part_of_lines before (c ∷ cs) held done rest last some held_is segment end_is =
-    append_assoc held done last
-    ∙ (λ k. held_is k ++ (ap (λ xs. done ++ xs) (end_is ∙ sym (front_rest rest segment.without))
-    ∙ segment.joined unless_cr) k)
+    grind (arith, append_assoc, front_rest)

@@ -1,6 +1,6 @@
 -- What was appended to an output, item by item, and what the writer took of it in the end.
-use Rattle.std.proofs.Common.{◌≡◌, ◌⊎◌, ℕ, List, [], ◌∷◌, ◌++◌, map}
-use Rattle.std.proofs.Common.{append-nil, length, ap, inl, inr, refl, subst, sym, ◌∙◌}
+use Rattle.std.proofs.Common.{◌≡◌, ◌⊎◌, ℕ, List, [], ◌∷◌, ◌++◌, map, arith, append-nil, length}
+use Rattle.std.proofs.Common.{refl, subst, sym}
 use Rattle.std.proofs.lemmas.Grind.{flat_map-append}
 use Rattle.std.proofs.lemmas.List.{map-append}
 use Rattle.std.specs.List.{flat_map}
@@ -36,9 +36,7 @@ pub shows_one_more : {X A : Type 0} (shown : A → List ℕ) (view : X → A) (i
 shows_one_more shown view items item so_far appends =
     let before = flat_map shown (map view items) in
     let more : before ++ shown (view item) ≡ flat_map shown (map view (items ++ item ∷ [])) =
-    sym (ap (flat_map shown) (map-append view items (item ∷ []))
-    ∙ (flat_map-append shown (map view items) (view item ∷ [])
-    ∙ ap (λ xs. before ++ xs) (append-nil (shown (view item))))) in (
+    grind (arith, map-append, flat_map-append, append-nil) in (
       MayFail-still (shown (view item)) so_far.0 appends,
       AppendsBytes-is more (AppendsBytes-trans before (shown (view item)) so_far.1 appends),
     )
@@ -55,11 +53,8 @@ pub writes_output : {K : Type 0} (says : sink.Ghosts K) (mode : Mode) (text : Li
     → FinishOutcome held.is_broken (output_state says mid held) (output_state says now left) result
     → WritesOutput says mode text (as_fault result) start now
 writes_output says mode text start mid now empty held left (Ok done) ready
-    (output, of_text, appends) ends = (
-      output,
-      of_text,
-      (passed_on says start mid now empty held left output (Ok done) ready appends ends).0,
-    )
+    (output, of_text, appends) ends =
+    grind (arith, passed_on says start mid now empty held left output (Ok done) ready appends ends)
 writes_output says mode text start mid now empty held left (Err fault) ready
     (output, of_text, appends) ends =
     let (sent, others, takes, is) =
@@ -80,12 +75,7 @@ module _ {S K : Type 0} (source : source.Ghosts S) (sink : sink.Ghosts K) (mode 
   pub not_read : (fault : EngineFault) → (fault ≡ Memory) ⊎ (fault ≡ Read)
       → (bytes : List ℕ) × Gives source r t bytes
       → Runs source sink (EngineOutcome mode (Err fault)) r t a a
-  not_read fault (inl is) (bytes, gives) =
-      subst (λ e. Runs source sink (EngineOutcome mode (Err e)) r t a a) (sym is)
-      (bytes, [], gives, Takes-nil sink a, refl)
-  not_read fault (inr is) (bytes, gives) =
-      subst (λ e. Runs source sink (EngineOutcome mode (Err e)) r t a a) (sym is)
-      (bytes, [], gives, Takes-nil sink a, refl)
+  not_read fault is given = grind (arith, Takes-nil sink a)
 
   -- a byte that is not ASCII
   pub not_ascii : (text : List ℕ) (n : ℕ) → GivesAll source r t text
@@ -117,5 +107,4 @@ module _ {S K : Type 0} (source : source.Ghosts S) (sink : sink.Ghosts K) (mode 
   ran b text (Err Read) all ascii writes = absurd writes
 
 pub on_error : {T E : Type 0} (result : Result T E) {P : Type 0} → P → OnErr result P
-on_error (Ok _) holds = tt
-on_error (Err _) holds = holds
+on_error result holds = grind arith

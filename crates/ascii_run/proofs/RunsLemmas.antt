@@ -1,16 +1,13 @@
 -- Runs of commands, one step after another.
-use Rattle.std.proofs.Common.{◌≡◌, ◌≢◌, ℕ, ◌≤◌, zero, suc, List, [], ◌∷◌, ◌++◌, ◌∙◌}
-use Rattle.std.proofs.Common.{ap, map, refl, subst, sym, take, inl, inr, arith}
-use Rattle.std.specs.Prelude.{unwrap_or}
-use Rattle.std.specs.Option.{option_map_or}
+use Rattle.std.proofs.Common.{◌≡◌, ◌≢◌, ℕ, ◌≤◌, zero, suc, List, [], ◌∷◌, ◌++◌, ◌∙◌, map, refl, sym}
+use Rattle.std.proofs.Common.{take, arith}
 use Rattle.std.proofs.lemmas.List.Elements.{All-head, All-tail}
 use Rattle.ascii.specs.StringState.{StringState}
 use Rattle.ascii_run.specs.declared.commands.Cmd.{Cmd}
-use Rattle.ascii_run.specs.declared.commands.Cmd.TheVariants.{Push, PushStr, Insert, InsertStr}
-use Rattle.ascii_run.specs.declared.commands.Cmd.TheVariants.{Reserve, Shrink}
+use Rattle.ascii_run.specs.declared.commands.Cmd.TheVariants.{Shrink}
 use Rattle.ascii_run.specs.declared.commands.Reply.{Reply}
-use Rattle.ascii_run.specs.Step.{MayRunOutIn, MayRunOut, ReplyValue, Step, no_memory, rejection_of}
-use Rattle.ascii_run.specs.Step.{reply_of, value_of_reply}
+use Rattle.ascii_run.specs.Step.{MayRunOutIn, MayRunOut, ReplyValue, Step, no_memory}
+use Rattle.ascii_run.specs.Step.{value_of_reply}
 use Rattle.ascii_run.specs.Run.{Agree, AreRuns, IsPlainRun, IsNotOutOfMemory, Outcome, Run}
 use Rattle.ascii_run.specs.Run.{NeverOutOfMemory, after, answer, outcome, plain_replies}
 
@@ -19,8 +16,7 @@ pub run_more : {A : Type 0} (sure : ℕ) (t : List ℕ) (cmds : List Cmd) (repli
     (mid : List ℕ) (cmd : Cmd) (r : Reply A) (t2 : List ℕ)
     → Run sure t cmds replies mid → Step sure mid cmd (value_of_reply r) t2
     → Run sure t (cmds ++ cmd ∷ []) (replies ++ r ∷ []) t2
-run_more {A} sure t [] [] mid cmd r t2 h s =
-    let P : List ℕ → Type 0 = λ x. Step sure x cmd (value_of_reply r) t2 in (t2, subst P h s, refl)
+run_more {A} sure t [] [] mid cmd r t2 h s = grind arith
 run_more {A} sure t [] (q ∷ replies) mid cmd r t2 h s = absurd h
 run_more {A} sure t (c ∷ cmds) [] mid cmd r t2 h s = absurd h
 run_more {A} sure t (c ∷ cmds) (q ∷ replies) mid cmd r t2 h s =
@@ -29,15 +25,7 @@ run_more {A} sure t (c ∷ cmds) (q ∷ replies) mid cmd r t2 h s =
 -- a step whose allocation does not fail replies and edits
 pub step_plain : (sure : ℕ) (t : List ℕ) (cmd : Cmd) (r : ReplyValue) (t2 : List ℕ)
     → Step sure t cmd r t2 → r ≢ no_memory → (r ≡ answer t cmd) × (t2 ≡ after t cmd)
-step_plain sure t cmd r t2 (inl (is, reply)) some = (
-  reply ∙ sym (ap (λ o. option_map_or (λ mid. reply_of t cmd) o (rejection_of t cmd)) is),
-  sym (ap (λ o. unwrap_or o t) is),
-)
-step_plain sure t cmd r t2 (inr (inl (is, reply, same))) some = (
-  reply ∙ sym (ap (λ o. option_map_or (λ mid. reply_of t cmd) o (rejection_of t cmd)) is),
-  same ∙ sym (ap (λ o. unwrap_or o t) is),
-)
-step_plain sure t cmd r t2 (inr (inr wants)) some = absurd (some wants.0)
+step_plain sure t cmd r t2 is some = grind arith
 
 -- a run in which no allocation fails is the plain run
 pub run_plain : {A : Type 0} (sure : ℕ) (t : List ℕ) (cmds : List Cmd) (replies : List (Reply A))
@@ -51,10 +39,7 @@ run_plain {A} sure t (cmd ∷ cmds) (r ∷ replies) t2 h some =
     let step = step_plain sure t cmd (value_of_reply r) h.0 h.1
     (All-head IsNotOutOfMemory r replies some) in
     let rest = run_plain sure h.0 cmds replies t2 h.2 (All-tail IsNotOutOfMemory r replies some)
-    in (
-      rw (step.0, rest.0, step.1) refl,
-      rw (rest.1, step.1) refl,
-    )
+    in grind arith
 
 -- up to the first allocation failure the replies of a run are those of the plain run
 pub run_front : {A : Type 0} (sure : ℕ) (t : List ℕ) (cmds : List Cmd) (replies : List (Reply A))
@@ -88,44 +73,26 @@ runs_agree {A} {B} cmds first second runs =
 -- an allocation that may fail past a sure length may fail past a smaller one
 may_refuse_less : (sure less : ℕ) (t : List ℕ) (cmd : Cmd) → less ≤ sure → MayRunOut sure t cmd
     → MayRunOut less t cmd
-may_refuse_less sure less t (Push ch) le h = (h.0, omega (arith, h.1))
-may_refuse_less sure less t (PushStr view) le h = (h.0, omega (arith, h.1))
-may_refuse_less sure less t (Insert i ch) le h = (h.0, omega (arith, h.1))
-may_refuse_less sure less t (InsertStr i view) le h = (h.0, omega (arith, h.1))
-may_refuse_less sure less t (Reserve n) le h = (h.0, omega (arith, h.1))
-may_refuse_less sure less t Shrink le h = omega arith
-may_refuse_less sure less t other le h = h
+may_refuse_less sure less t cmd le h = grind arith
 
 -- where room is missing for a command that gives none back, the capacity is a sure length
 lacks_room : (sure : ℕ) (held : StringState) (cmd : Cmd) → cmd ≢ Shrink
     → MayRunOutIn sure held cmd → MayRunOut held.capacity held.text cmd
-lacks_room sure held Shrink ne h = absurd (ne refl)
-lacks_room sure held other ne h = h
+lacks_room sure held cmd ne h = grind arith
 
 -- if room is missing, an allocation may fail past the sure length
 lacks_may_refuse : (sure : ℕ) (held : StringState) (cmd : Cmd) → sure ≤ held.capacity
     → MayRunOutIn sure held cmd → MayRunOut sure held.text cmd
-lacks_may_refuse sure held Shrink le h = h.0
-lacks_may_refuse sure held other le h = may_refuse_less held.capacity sure held.text other le h
+lacks_may_refuse sure held cmd le h = grind (arith, may_refuse_less)
 
 module _ (held : StringState) (cmd : Cmd) (r : ReplyValue) (t2 : List ℕ)
     (step : Step 0 held.text cmd r t2) (sure : ℕ)
     (lacks : r ≡ no_memory → MayRunOutIn sure held cmd) where
   -- a step runs out of memory only past the sure length
   pub step_sure : sure ≤ held.capacity → Step sure held.text cmd r t2
-  step_sure le = elim step [
-    | inl done ↦ inl done
-    | inr (inl rejected) ↦ inr (inl rejected)
-    | inr (inr out) ↦ inr (inr (out.0, out.1, lacks_may_refuse sure held cmd le (lacks out.0), out.3))
-  ]
+  step_sure le = grind (arith, lacks_may_refuse)
 
   -- up to the capacity every length is sure
   pub step_within : (start : ℕ) → start ≤ held.capacity → cmd ≢ Shrink
       → Step start held.text cmd r t2
-  step_within start le ne = elim step [
-    | inl done ↦ inl done
-    | inr (inl rejected) ↦ inr (inl rejected)
-    | inr (inr out) ↦
-        let short = lacks_room sure held cmd ne (lacks out.0) in
-        inr (inr (out.0, out.1, may_refuse_less held.capacity start held.text cmd le short, out.3))
-  ]
+  step_within start le ne = grind (arith, lacks_room, may_refuse_less)

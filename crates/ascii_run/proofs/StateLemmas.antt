@@ -1,6 +1,6 @@
 -- The outcome of a run by the bytes that its reader has left and those that its writer has taken,
 -- for a caller whose devices tell them.
-use Rattle.std.proofs.Common.{◌≡◌, ◌≢◌, List, Option, Result, Ok, Err, subst, sym, ℕ}
+use Rattle.std.proofs.Common.{◌≡◌, ◌≢◌, List, Option, Result, Err, ℕ, arith}
 use Rattle.std.specs.Io.KnownBytes.{Appends, Consumes, IsAtEnd}
 use Rattle.ascii_devices.specs.declared.Sink as sink
 use Rattle.ascii_devices.specs.declared.Source as source
@@ -10,8 +10,7 @@ use Rattle.ascii_run.specs.Reading.{Counts}
 use Rattle.ascii_run.specs.declared.bounded.BoundedMode.{BoundedMode}
 use Rattle.ascii_run.specs.declared.faults.BoundedFault.{BoundedFault}
 use Rattle.ascii_run.specs.declared.faults.EngineFault.{EngineFault}
-use Rattle.ascii_run.specs.declared.faults.EngineFault.TheVariants.{NotAscii, Position, Memory}
-use Rattle.ascii_run.specs.declared.faults.EngineFault.TheVariants.{Read, Write}
+use Rattle.ascii_run.specs.declared.faults.EngineFault.TheVariants.{Read}
 use Rattle.ascii_run.specs.declared.modes.Mode.{Mode}
 use Rattle.ascii_run.proofs.OutputBufferLemmas.{Runs}
 
@@ -19,14 +18,7 @@ use Rattle.ascii_run.proofs.OutputBufferLemmas.{Runs}
 end_told : (mode : Mode) (result : Result (Unit {0}) EngineFault) (given took : List ℕ)
     (P Q : Type 0) → (result ≢ Err Read → P → Q)
     → EngineOutcome mode result given P took → EngineOutcome mode result given Q took
-end_told mode (Ok _) given took P Q to (end, ascii, output) = (to (λ is. cc) end, ascii, output)
-end_told mode (Err (NotAscii n)) given took P Q to (end, other, none) =
-    (to (λ is. cc) end, other, none)
-end_told mode (Err (Position k)) given took P Q to (end, ascii, fault, none) =
-    (to (λ is. cc) end, ascii, fault, none)
-end_told mode (Err Write) given took P Q to (end, ascii, front) = (to (λ is. cc) end, ascii, front)
-end_told mode (Err Memory) given took P Q to none = none
-end_told mode (Err Read) given took P Q to none = none
+end_told mode result given took P Q to none = grind arith
 
 module _ {S K : Type 0} (source : source.Ghosts S) (sink : sink.Ghosts K) (r t : S) (a b : K) where
   -- the outcome of `engine`: unless a read failed, the reader has lost the bytes that it gave
@@ -37,15 +29,7 @@ module _ {S K : Type 0} (source : source.Ghosts S) (sink : sink.Ghosts K) (r t :
       × (result ≢ Err Read → Consumes (source.rest r) (source.rest t) given)
       × Appends (sink.taken a) (sink.taken b) took
       × EngineOutcome mode result given (IsAtEnd (source.rest t)) took
-  engine_by_states mode result (given, took, gives, takes, outcome) counts = (
-    given,
-    took,
-    λ other. subst (λ rest. Consumes (source.rest r) rest given)
-        (sym (gives.left (counts.1 other))) gives.gave,
-    takes.took,
-    end_told mode result given took _ _
-        (λ other. subst IsAtEnd (sym (gives.left (counts.1 other)))) outcome,
-  )
+  engine_by_states mode result is counts = grind (arith, end_told)
 
   -- the outcome of `bounded_engine`: unless a read failed, the reader has `left` yet to give
   pub bounded_by_states : (mode : BoundedMode) (result : Result (Unit {0}) BoundedFault)
@@ -55,5 +39,4 @@ module _ {S K : Type 0} (source : source.Ghosts S) (sink : sink.Ghosts K) (r t :
       × Consumes (source.rest r) left given
       × Appends (sink.taken a) (sink.taken b) took
       × BoundedOutcome mode result given (IsAtEnd left) took
-  bounded_by_states mode result (given, took, gives, takes, outcome) =
-      (given, took, gives.rest, gives.left, gives.gave, takes.took, outcome)
+  bounded_by_states mode result is = grind arith

@@ -1,5 +1,5 @@
-use Rattle.std.proofs.Common.{◌≡◌, ◌+◌, ◌<◌, ◌++◌, ◌∷◌, ◌∙◌, [], ap, drop, length, sym, take}
-use Rattle.std.proofs.Common.{arith, length-take-le, suc}
+use Rattle.std.proofs.Common.{◌≡◌, ◌+◌, ◌<◌, ◌++◌, ◌∷◌, [], drop, length, take, arith}
+use Rattle.std.proofs.Common.{length-take-le, suc}
 use Rattle.std.proofs.lemmas.List.{take_more, take-append-drop}
 use Rattle.std.proofs.Math.Seq.{drop-cons}
 use Rattle.std.proofs.lemmas.Result.{err_from_is_err_and}
@@ -14,15 +14,12 @@ returns-in_err-check_reply-clause-err g c =
     let cmd = c.index-cmds-k.result in
     let lt : k < length cmds = omega arith in
     let cut : cmds ≡ take k cmds ++ cmd ∷ drop (suc k) cmds =
-    sym (take-append-drop k cmds) ∙ ap (λ xs. take k cmds ++ xs)
-    (drop-cons cmds k cmd lt ∙ ap (λ x. x ∷ drop (suc k) cmds) (sym c.index-cmds-k.is)) in
+    grind (arith, take-append-drop, drop-cons) in
     let exit = err_from_is_err_and c.from_residual.result c.from_residual.ensures.1 in
     rw (exit.1, exit.2)
     (edits_stop c.args.buf.now.text cmds (take k cmds) (drop (suc k) cmds) k cmd c.loop-k.buf.text
-    (value_of_reply c.step.result) c.step.new.buf.text
-    c.in_err-check_reply.field-0.0
-    cut (omega (arith, length-take-le k cmds))
-    c.loop-k.invariant c.step.ensures.step
+    (value_of_reply c.step.result) c.step.new.buf.text c.in_err-check_reply.field-0.0
+    cut (omega (arith, length-take-le k cmds)) c.loop-k.invariant c.step.ensures.step
     c.in_err-check_reply.ensures.err)
 
 pub loop-k-preserved : goal.loop-k-preserved
@@ -31,9 +28,5 @@ loop-k-preserved g c =
     let k = c.loop-k.k in
     let cmd = c.index-cmds-k.result in
     let lt : k < length cmds = omega arith in
-    let more : take (k + 1) cmds ≡ take k cmds ++ cmd ∷ [] =
-    take_more cmds k cmd lt ∙ ap (λ x. take k cmds ++ x ∷ []) (sym c.index-cmds-k.is) in
-    rw more (edits_more 0 c.args.buf.now.text (take k cmds) cmd c.loop-k.buf.text
-    c.step.new.buf.text c.loop-k.invariant
-    (edited_by 0 c.loop-k.buf.text cmd (value_of_reply c.step.result) c.step.new.buf.text
-    c.step.ensures.step c.in_ok-check_reply.ensures.fault c.in_ok-check_reply.ensures.memory))
+    let more : take (k + 1) cmds ≡ take k cmds ++ cmd ∷ [] = grind (arith, take_more) in
+    grind (arith, edits_more, edited_by)

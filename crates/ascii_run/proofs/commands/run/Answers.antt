@@ -1,5 +1,4 @@
-use Rattle.std.proofs.Common.{◌≡◌, ◌≢◌, ◌+◌, ◌<◌, ◌++◌, ◌∷◌, ◌∙◌, [], ap, length, refl, sym, take}
-use Rattle.std.proofs.Common.{arith}
+use Rattle.std.proofs.Common.{◌≡◌, ◌≢◌, ◌+◌, ◌<◌, ◌++◌, ◌∷◌, [], length, refl, take, arith}
 use Rattle.std.proofs.lemmas.List.{take_more}
 use Rattle.std.proofs.lemmas.List.Elements.{All-get_or}
 use Rattle.ascii_run.specs.declared.commands.Cmd.TheVariants.{Shrink}
@@ -13,19 +12,14 @@ loop-cmd-preserved g c =
     let i = c.loop-cmd.cmd-index in
     let item = c.cmd-item.result in
     let lt : i < length cmds = omega arith in
-    let more : take (i + 1) cmds ≡ take i cmds ++ item ∷ [] =
-    take_more cmds i item lt ∙ ap (λ x. take i cmds ++ x ∷ []) (sym c.cmd-item.is) in
-    let keeps : NeverShrinks cmds → item ≢ Shrink =
-    λ never. rw c.cmd-item.is (All-get_or (λ cmd. cmd ≢ Shrink) cmds i item lt never) in
+    let more : take (i + 1) cmds ≡ take i cmds ++ item ∷ [] = grind (arith, take_more) in
+    let keeps : NeverShrinks cmds → item ≢ Shrink = grind (arith, All-get_or) in
     rw (more, c.in_ok-push.ensures.items) record {
       run = run_more _ _ _ _ _ _ _ _ c.loop-cmd.invariant.run
           (step_sure _ _ _ _ c.step.ensures.step _ c.step.ensures.room
           (g.met.B.AsciiBuf.holds_sure c.loop-cmd.buf));
-      within = λ never. run_more _ _ _ _ _ _ _ _ (c.loop-cmd.invariant.within never)
-          (step_within _ _ _ _ c.step.ensures.step _ c.step.ensures.room _
-          (c.loop-cmd.invariant.capacity never) (keeps never));
-      capacity = λ never.
-          omega (arith, c.loop-cmd.invariant.capacity never, c.step.ensures.capacity (keeps never));
+      within = grind (arith, run_more, step_within);
+      capacity = grind arith;
       len = rw (c.in_ok-push.ensures.len, c.loop-cmd.invariant.len) refl;
       room = omega (arith, c.loop-cmd.invariant.room, c.push.ensures.capacity);
     }

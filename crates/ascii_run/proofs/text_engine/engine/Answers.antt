@@ -1,4 +1,4 @@
-use Rattle.std.proofs.Common.{subst}
+use Rattle.std.proofs.Common.{subst, arith}
 use Rattle.ascii_run.specs.Reading.{HasFirstOther}
 use Rattle.ascii_run.proofs.OutputBufferLemmas.{not_ascii, not_read, ran, stays}
 use Rattle.ascii_run.proofs.text_engine.engine.Goals as goal
@@ -7,9 +7,7 @@ pub returns-in_err-input-clause-outcome : goal.returns-in_err-input-clause-outco
 returns-in_err-input-clause-outcome g c =
     stays g.S.Source g.K.Sink c.args.mode c.args.reader.now c.read_all.new.reader c.args.writer.now
     c.in_err-input.field-0.0 c.from_residual.result c.from_residual.ensures.1
-    (not_read g.S.Source g.K.Sink c.args.mode c.args.reader.now c.read_all.new.reader
-    c.args.writer.now c.in_err-input.field-0.0 c.in_err-input.ensures.err
-    c.in_err-input.ensures.gave)
+    (grind (arith, not_read))
 
 pub returns-in-Some-clause-outcome : goal.returns-in-Some-clause-outcome
 returns-in-Some-clause-outcome g c =

@@ -1,31 +1,18 @@
-use Rattle.std.proofs.Common.{[], ◌++◌, ◌∙◌, ap, append-nil, refl, rules, subst, sym, take}
-use Rattle.std.specs.Str.{IsAscii}
+use Rattle.std.proofs.Common.{◌++◌, ◌∙◌, ap, append-nil, subst, take, arith}
 use Rattle.std.proofs.lemmas.Str.Ascii.{IsAscii-nil}
 use Rattle.ascii_devices.proofs.HistoryLemmas.{Gives-end, Gives-failed, Gives-nil, Gives-read}
-use Rattle.ascii_devices.specs.States.{Gives}
 use Rattle.ascii_run.specs.Reading.{GivesAll}
 use Rattle.ascii_run.proofs.OutputBufferLemmas.{on_error}
 use Rattle.ascii_run.proofs.text_engine.read_all.Goals as goal
 
 pub returns-in_err-room-clause-gave : goal.returns-in_err-room-clause-gave
-returns-in_err-room-clause-gave g c =
-    on_error c.from_residual.result ([], Gives-nil g.S.Source c.args.reader.now)
+returns-in_err-room-clause-gave g c = grind (arith, on_error, Gives-nil)
 
 pub reads-init : goal.reads-init
-reads-init g c =
-    let source = c.args.reader.now in (
-      subst (Gives g.S.Source source source) (sym c.new-input.ensures.items) (Gives-nil g.S.Source source),
-      refl,
-      subst IsAscii (sym c.new-input.ensures.items) IsAscii-nil,
-    )
+reads-init g c = grind (arith, Gives-nil, IsAscii-nil)
 
 pub returns-in_default-clause-gave : goal.returns-in_default-clause-gave
-returns-in_default-clause-gave g c = (
-  c.reads.input.items,
-  Gives-failed g.S.Source c.args.reader.now c.reads.reader c.read.new.self
-      c.reads.input.items c.reads.invariant.1 c.in_default.ensures.count c.reads.invariant.0
-      c.in_default.ensures.history,
-)
+returns-in_default-clause-gave g c = grind (arith, Gives-failed)
 
 pub returns-then-n-eq0-clause-ok : goal.returns-then-n-eq0-clause-ok
 returns-then-n-eq0-clause-ok g c =
@@ -40,8 +27,7 @@ returns-then-n-eq0-clause-ok g c =
     subst (GivesAll g.S.Source c.args.reader.now c.read.new.self)
     (ap (λ k. input ++ take k c.read.new.buf) c.if-n-eq0.true ∙ append-nil input) (
       gave,
-      Gives-end g.S.Source start now (input ++ part) gave
-          (c.in-Ok.ensures.count ∙ c.reads.invariant.1) (c.in-Ok.ensures.end c.if-n-eq0.true),
+      grind (arith, Gives-end),
     )
 
 pub returns-in_err-extend_from_slice-clause-gave :
@@ -50,20 +36,8 @@ returns-in_err-extend_from_slice-clause-gave g c =
     let part = take c.in-Ok.n c.read.new.buf in
     on_error c.from_residual-in_err-extend_from_slice.result (
       c.reads.input.items ++ part,
-      Gives-read g.S.Source c.args.reader.now c.reads.reader c.read.new.self
-          c.reads.input.items part c.reads.invariant.1 c.in-Ok.ensures.count c.reads.invariant.0
-          c.in-Ok.ensures.bytes.1 c.in-Ok.ensures.history,
+      grind (arith, Gives-read),
     )
 
 pub reads-preserved : goal.reads-preserved
-reads-preserved g c =
-    let part = take c.in-Ok.n c.read.new.buf in (
-      subst (Gives g.S.Source c.args.reader.now c.read.new.self)
-          (sym c.in_ok-extend_from_slice.ensures.items)
-          (Gives-read g.S.Source c.args.reader.now c.reads.reader
-          c.read.new.self c.reads.input.items part c.reads.invariant.1
-          c.in-Ok.ensures.count c.reads.invariant.0 c.in-Ok.ensures.bytes.1
-          c.in-Ok.ensures.history),
-      c.in-Ok.ensures.count ∙ c.reads.invariant.1,
-      search rules,
-    )
+reads-preserved g c = grind (arith, Gives-read)

@@ -1,4 +1,4 @@
-use Rattle.std.proofs.Common.{◌++◌}
+use Rattle.std.proofs.Common.{arith}
 use Rattle.ascii_run.proofs.LineFeedLemmas.{part_of_lines}
 use Rattle.ascii_devices.proofs.BufferedLemmas.{AppendsBytes-is, AppendsBytes-trans}
 use Rattle.ascii_run.proofs.modes.lines.put_lines.Goals as goal
@@ -11,6 +11,4 @@ returns g c =
     let (done, appended, segment) = c.put_segments-remaining.ensures in
     let is = part_of_lines c.args.before c.args.part.now held done rest last c.if-is_empty.ensures
     c.held_back.ensures segment c.without_last_cr.ensures in
-    AppendsBytes-is is
-    (AppendsBytes-trans (held ++ done) last
-    (AppendsBytes-trans held done c.put.ensures appended) c.put-2.ensures)
+    AppendsBytes-is is (grind (arith, AppendsBytes-trans))

@@ -1,8 +1,7 @@
-use Rattle.std.proofs.Common.{◌+◌, ◌++◌, [], length, refl, subst}
+use Rattle.std.proofs.Common.{◌+◌, ◌++◌, [], length, refl, subst, arith}
 use Rattle.memchr.specs.Find.{Nowhere, OccursAt}
 use Rattle.ascii_run.proofs.LineFeedLemmas.{run_more}
-use Rattle.ascii_devices.proofs.BufferedLemmas.{MayFail-still, AppendsBytes-nil}
-use Rattle.ascii_devices.proofs.BufferedLemmas.{AppendsBytes-trans}
+use Rattle.ascii_devices.proofs.BufferedLemmas.{MayFail-still, AppendsBytes-nil, AppendsBytes-trans}
 use Rattle.ascii_run.proofs.modes.lines.put_segments.Goals as goal
 
 pub segments-init : goal.segments-init
@@ -15,10 +14,7 @@ segments-preserved g c =
       MayFail-still segment c.segments.invariant.0 c.put.ensures,
       (
         done ++ segment,
-        run_more c.args.text.now done c.segments.remaining.now c.new-ending.result segment
-            c.split_at.result.1.now c.in-Some.place c.new-ending.ensures
-            c.in-Some.ensures c.split_at.ensures.front c.split_at.ensures.back
-            c.segments.invariant.1.1,
+        grind (arith, run_more),
         AppendsBytes-trans done segment c.segments.invariant.1.2 c.put.ensures,
       ),
     )
