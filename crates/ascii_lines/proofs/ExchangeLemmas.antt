@@ -12,11 +12,9 @@ use Rattle.ascii_devices.specs.Devices.{received_of}
 use Rattle.ascii_lines.specs.Exchanges.{IsReplier, Runs, inputs_of, said_in}
 use Rattle.ascii_lines.specs.Replies.{Reply, Step, rejected, reply_bytes, reply_text, skipped, took}
 use Rattle.ascii_lines.specs.Serve.{ChannelState, RepliesToAll, Serves, Talk, first_place}
-use Rattle.ascii_lines.specs.Turns.{IsTurnAt, Place, Stops, Turns, awaited_by, is_ended, place_of}
-use Rattle.ascii_lines.specs.declared.conversation.Awaited.{Awaited}
-use Rattle.ascii_lines.specs.declared.conversation.Awaited.TheVariants.{Input, LineEnd, Nothing}
+use Rattle.ascii_lines.specs.Turns.{IsTurnAt, Place, Turns, awaited_by, is_ended, place_of}
+use Rattle.ascii_lines.specs.declared.conversation.Awaited.TheVariants.{Input, Nothing}
 use Rattle.ascii_lines.specs.declared.conversation.Supply.{Supply}
-use Rattle.ascii_lines.specs.declared.conversation.Supply.TheVariants as supply
 use Rattle.ascii_lines.specs.declared.line_reader.LineError.{LineError}
 use Rattle.ascii_lines.specs.declared.serving.Next.{Next}
 use Rattle.ascii_lines.specs.declared.serving.Next.TheVariants as next
@@ -34,18 +32,7 @@ module _ {H : Type 0} (answers : H → Line → List Reply → Next → H → Ty
       → Turns answers refuses endings size now a steps b
       → Runs answers refuses a.handler steps b.handler
   turns_run a b [] same = ap (λ (p : Place H). p.handler) same
-  turns_run a b (step ∷ steps) (mid, turn, turns) =
-      go a.awaited step turn (turns_run mid b steps turns)
-    where
-      go : (awaited : Awaited) (step : Step)
-          → IsTurnAt answers refuses endings size now awaited a step mid
-          → Runs answers refuses mid.handler steps b.handler
-          → Runs answers refuses a.handler (step ∷ steps) b.handler
-      go (Input asked) (took input said) t runs = (t.0, mid.handler, t.8, runs)
-      go (Input asked) (rejected error said) t runs = (t.0, mid.handler, t.5, runs)
-      go (Input asked) (skipped bytes) t runs = rw t.3 at runs
-      go (LineEnd then) (skipped bytes) t runs = rw t.0 at runs
-      go _ _ t runs = absurd t
+  turns_run a b (step ∷ steps) (mid, turn, turns) = grind (arith, turns_run mid b steps turns)
 
 module _ {H : Type 0} (answers : H → Line → List Reply → Next → H → Type 0)
     (refuses : H → LineError → List Reply → Next → H → Type 0) where
@@ -53,10 +40,7 @@ module _ {H : Type 0} (answers : H → Line → List Reply → Next → H → Ty
   pub talk_runs : {old new : ChannelState} {handler last : H}
       (talk : Talk answers refuses old handler new last)
       → Runs answers refuses handler talk.steps last
-  talk_runs {old} {new} {handler} {last} talk =
-      turns_run answers refuses old.talk.endings old.talk.size talk.now
-      (first_place old handler (received_of talk.events)) (place_of new.talk last) talk.steps
-      talk.turns
+  talk_runs {old} {new} {handler} {last} talk = grind (arith, turns_run)
 
 -- ---- handlers that reply to lines
 
@@ -88,8 +72,7 @@ module _ {H : Type 0} (answers : H → Line → List Reply → Next → H → Ty
   takes_lines : (a b : Place H) (steps : List Step) → a.awaited ≡ Input next.Line
       → b.awaited ≡ Nothing stop.EndOfInput → Turns answers refuses endings size now a steps b
       → TakesLines a.text steps
-  takes_lines a b [] line ends same = let e : Nothing stop.EndOfInput ≡ Input next.Line =
-      sym ends ∙ (ap (λ (p : Place H). p.awaited) same ∙ line) in cc
+  takes_lines a b [] line ends same = grind arith
   takes_lines a b (step ∷ steps) line ends (mid, turn, turns) = go step
       (λ is. takes_lines mid b steps is ends turns)
       (subst (λ w. IsTurnAt answers refuses endings size now w a step mid) line turn)
@@ -117,18 +100,8 @@ module _ {H : Type 0} (answers : H → Line → List Reply → Next → H → Ty
                 ]) others.are);
             says = λ ending. rw (by.0, others.says ending);
           }
-      go (rejected error said) then t =
-          let by = replier.1 a.handler error said t.0 mid.handler t.5 in
-          elim t.2 [
-            | inl on ↦ absurd (on.3 by)
-            | inr stops ↦ let e : stop.Reader error ≡ stop.EndOfInput =
-                (over (stop.Reader error) stops.0).0 in cc
-          ]
-      go (skipped bytes) then t = ended t.0 t.2 (over t.0 (ap (λ (p : Place H). p.awaited) t.3))
-        where
-          ended : (why : Stop) → Stops now next.Line a.text why
-              → (why ≡ stop.EndOfInput) × (steps ≡ []) → TakesLines a.text (skipped bytes ∷ steps)
-          ended why stops last = grind (arith, LinesEndedBy-nil)
+      go (rejected error said) then t = grind (arith, over)
+      go (skipped bytes) then t = grind (arith, over, LinesEndedBy-nil)
 
 module _ {H : Type 0} (answers : H → Line → List Reply → Next → H → Type 0)
     (refuses : H → LineError → List Reply → Next → H → Type 0) (reply : Line → Reply)
@@ -145,13 +118,9 @@ module _ {H : Type 0} (answers : H → Line → List Reply → Next → H → Ty
       elim serves.stops [ inl writer ↦ cc | inr over ↦ over ] in
       let all = takes_lines answers refuses reply replier old.talk.endings old.talk.size talk.now
       (first_place old handler (received_of talk.events)) (place_of new.talk last) talk.steps refl
-      over
-      talk.turns in
+      over talk.turns in
       let seen : new.talk.is_at_end ≡ true = sym talk.ended ∙ ap is_ended used.0 in
-      let reads : new.output.aside.failures ≡ old.output.aside.failures = elim talk.reads [
-        | inl same ↦ same
-        | inr failed ↦ let e : supply.Ended ≡ supply.Failed = sym used.0 ∙ failed.0 in cc
-      ] in
+      let reads : new.output.aside.failures ≡ old.output.aside.failures = grind arith in
       record {
         lines = inputs_of talk.steps;
         input = all_given old.output.aside.bytes talk.gave.rest (received_of talk.events)
@@ -167,8 +136,4 @@ pub replied_in_memory : (reply : Line → Reply) (old new : ChannelState) (text 
     → new.output.taken ≡ Some written
     → (lines : List Line) × LinesEndedBy old.talk.endings text lines
     × (written ≡ flat_map (λ line. reply_text old.ending (reply line)) lines)
-replied_in_memory reply old new text written all none empty rest before after = (
-  all.lines,
-  rw (rest, none) at all.input,
-  rw (before, after, empty) at all.output,
-)
+replied_in_memory reply old new text written all none empty rest before after = grind arith

@@ -1,13 +1,13 @@
 -- What a source gave while something was wanted, one read after another.
-use Rattle.std.proofs.Common.{◌≡◌, ◌≢◌, ◌==◌, List, [], ◌∷◌, ◌++◌, ℕ, Bool, true}
-use Rattle.std.proofs.Common.{ap, append_assoc, append-nil, arith, eqb-true, false, length, refl}
-use Rattle.std.proofs.Common.{inl, inr, subst, sym, ◌⊎◌, ◌∙◌}
-use Rattle.std.specs.List.{All, flat_map}
+use Rattle.std.proofs.Common.{◌≡◌, ◌≢◌, ◌==◌, List, [], ◌∷◌, ◌++◌, ℕ, Bool, true, append_assoc}
+use Rattle.std.proofs.Common.{append-nil, arith, eqb-true, false, length, refl, inl, inr, subst}
+use Rattle.std.proofs.Common.{sym, ◌⊎◌, ◌∙◌}
+use Rattle.std.specs.List.{All}
 use Rattle.std.proofs.lemmas.Bool.{false≢true}
 use Rattle.std.proofs.lemmas.List.Elements.{All-head, All-nil, All-push, All-tail}
 use Rattle.std.proofs.lemmas.Grind.{flat_map-append}
-use Rattle.ascii_devices.proofs.HistoryLemmas.{Gives-nil, Gives-trans, Grows-nil}
-use Rattle.ascii_devices.proofs.HistoryLemmas.{Grows-trans, read_fails, read_gives}
+use Rattle.ascii_devices.proofs.HistoryLemmas.{Gives-nil, Gives-trans, Grows-nil, Grows-trans}
+use Rattle.ascii_devices.proofs.HistoryLemmas.{read_fails, read_gives}
 use Rattle.ascii_devices.specs.Devices.{Grows, read_of}
 use Rattle.ascii_devices.specs.States.{Gives, SourceState, of_state}
 use Rattle.ascii_lines.specs.LineBuffer.{FailsOnce, ReadsOnce}
@@ -20,8 +20,7 @@ IsSome read = read ≢ []
 Asks-snoc : (Must : List ℕ → Type 0) (held : List ℕ) (reads : List (List ℕ)) (read : List ℕ)
     → Asks Must held reads → All IsSome reads → Must (held ++ all_of reads)
     → Asks Must held (reads ++ read ∷ [])
-Asks-snoc Must held [] read asks some last =
-    (subst Must (append-nil held) last, λ none. refl, tt)
+Asks-snoc Must held [] read asks some last = grind (arith, append-nil)
 Asks-snoc Must held (r ∷ reads) read asks some last = (
   asks.0,
   λ none. absurd (All-head IsSome r reads some none),
@@ -32,8 +31,7 @@ Asks-snoc Must held (r ∷ reads) read asks some last = (
 -- one piece after others
 all_of-snoc : (reads : List (List ℕ)) (read : List ℕ)
     → all_of (reads ++ read ∷ []) ≡ all_of reads ++ read
-all_of-snoc reads read = flat_map-append (λ (piece : List ℕ). piece) reads (read ∷ [])
-    ∙ ap (λ xs. all_of reads ++ xs) (append-nil read)
+all_of-snoc reads read = grind (arith, flat_map-append, append-nil)
 
 some_reads : (reads : List (List ℕ)) (read : List ℕ) → reads ++ read ∷ [] ≡ [] → ⊥
 some_reads [] read none = cc
@@ -58,18 +56,8 @@ is_some read other = grind arith
 
 pub Gathers-nil : (Must : List ℕ → Type 0) (held : List ℕ) (is_at_end : Bool) (a : SourceState)
     → KnowsEnd is_at_end a.rest → Gathers Must held is_at_end is_at_end a a held
-Gathers-nil Must held is_at_end a end = record {
-  reads = [];
-  asks = tt;
-  gave = Gives-nil of_state a;
-  told = Grows-nil a.history;
-  all = sym (append-nil held);
-  unread = λ none. refl;
-  aside = refl;
-  reaches = no_reads_reach is_at_end;
-  some = λ _ _. All-nil IsSome;
-  end = end;
-}
+Gathers-nil Must held is_at_end a end =
+    grind (arith, Gives-nil, Grows-nil, append-nil, no_reads_reach, All-nil)
 
 module _ (Must : List ℕ → Type 0) (held : List ℕ) (was mid is : Bool) (a b c : SourceState)
     (text read : List ℕ) (so_far : Gathers Must held was mid a b text) (more : mid ≡ false)
@@ -81,13 +69,10 @@ module _ (Must : List ℕ → Type 0) (held : List ℕ) (was mid is : Bool) (a b
       let reads = so_far.reads in
       record {
         reads = reads ++ read ∷ [];
-        asks = Asks-snoc Must held reads read so_far.asks (so_far.some more kept)
-            (subst Must so_far.all must);
+        asks = grind (arith, Asks-snoc);
         gave = subst (Gives of_state a c) (sym (all_of-snoc reads read))
             (Gives-trans of_state a b c (all_of reads) read kept so_far.gave gave);
-        told = rw (flat_map-append read_of reads (read ∷ []), append-nil (read_of read))
-            (Grows-trans a.history b.history c.history (flat_map read_of reads) (read_of read)
-            so_far.told told);
+        told = grind (arith, flat_map-append, append-nil, Grows-trans);
         all = simp (all_of-snoc reads read, so_far.all, append_assoc);
         unread = λ none. absurd (some_reads reads read none);
         aside = aside ∙ so_far.aside;
@@ -99,10 +84,7 @@ module _ (Must : List ℕ → Type 0) (held : List ℕ) (was mid is : Bool) (a b
   -- one read more
   pub Gathers-read : (new : List ℕ) → ReadsOnce b c read → new ≡ text ++ read
       → is ≡ (length read == 0) → Gathers Must held was is a c new
-  Gathers-read new reads all last = subst (Gathers Must held was is a c) (sym all)
-      (once (read_gives of_state b c read reads.gave reads.told) reads.told reads.aside
-      (λ ends. is_none read (sym last ∙ ends)) (λ going same. is_some read (sym last ∙ going))
-      (λ ends. reads.end (is_none read (sym last ∙ ends))))
+  Gathers-read new reads all last = grind (arith, once, read_gives, is_none, is_some)
 
 -- a read more, which failed, or was not made
 pub Gathers-failed : (Must : List ℕ → Type 0) (held : List ℕ) (was mid is : Bool)
@@ -113,10 +95,7 @@ Gathers-failed Must held was mid is a b c text new so_far more kept must (inr sa
     rw (same, all, last) so_far
 Gathers-failed Must held was mid is a b c text new so_far more kept must (inl fails) all last =
     subst (Gathers Must held was is a c) (append-nil text ∙ sym all)
-    (once Must held was mid is a b c text [] so_far more kept must
-    (read_fails of_state b c fails.failures fails.told) fails.told fails.aside (λ _. refl)
-    (λ going same. absurd (omega (arith, fails.failures, same, kept)))
-    (λ ends. absurd (false≢true (sym (last ∙ more) ∙ ends))))
+    (grind (arith, once, read_fails, false≢true))
 
 -- how many reads may yet return no bytes
 abbrev pub reads_left : Bool → ℕ

@@ -1,8 +1,7 @@
 -- Writes and flushes that a history tells of, one after another.
-use Rattle.std.proofs.Common.{◌≡◌, ℕ, List, [], ◌∷◌, ◌++◌, Option, ap}
-use Rattle.std.proofs.Common.{refl, subst, sym, ◌∙◌, append_assoc, append-nil, map}
-use Rattle.ascii_devices.proofs.HistoryLemmas.{Grows-trans, sent_of-all}
-use Rattle.ascii_devices.proofs.HistoryLemmas.{sent_of-append}
+use Rattle.std.proofs.Common.{◌≡◌, ℕ, List, [], ◌∷◌, ◌++◌, Option, ap, arith, refl, subst, sym, ◌∙◌}
+use Rattle.std.proofs.Common.{append_assoc, append-nil, map}
+use Rattle.ascii_devices.proofs.HistoryLemmas.{Grows-trans, sent_of-all, sent_of-append}
 use Rattle.ascii_devices.specs.Devices.{Grows, received_of, sent_of, write_of}
 use Rattle.ascii_devices.specs.declared.log.Event.{Event}
 use Rattle.ascii_devices.specs.declared.log.Event.TheVariants.{Flushed, Read, Received, Sent}
@@ -22,21 +21,12 @@ AreWrites-sent (b ∷ bytes) = AreWrites-sent bytes
 -- the bytes were written
 pub TellsSent-write : {a b : Option (List Event)} (sent : List ℕ)
     → Grows a b (write_of sent) → TellsSent a b sent
-TellsSent-write sent grows = record {
-  events = write_of sent;
-  grows = grows;
-  writes = AreWrites-sent sent;
-  noted = sent_of-all sent;
-}
+TellsSent-write sent grows = grind (arith, AreWrites-sent, sent_of-all)
 
 pub TellsSent-trans : {a b c : Option (List Event)} (sent more : List ℕ)
     → TellsSent a b sent → TellsSent b c more → TellsSent a c (sent ++ more)
-TellsSent-trans {a} {b} {c} sent more one two = record {
-  events = one.events ++ two.events;
-  grows = Grows-trans a b c one.events two.events one.grows two.grows;
-  writes = AreWrites-append one.events two.events one.writes two.writes;
-  noted = simp (sent_of-append, one.noted, two.noted);
-}
+TellsSent-trans {a} {b} {c} sent more one two =
+    grind (arith, Grows-trans, AreWrites-append, sent_of-append)
 
 -- ---- what writes and reads gave and sent
 
@@ -59,8 +49,7 @@ sent_of-bytes (b ∷ bytes) = sent_of-bytes bytes
 
 pub AtEachRead-append : (P : List Event → Type 0) (past xs ys : List Event)
     → AtEachRead P past xs → AtEachRead P (past ++ xs) ys → AtEachRead P past (xs ++ ys)
-AtEachRead-append P past [] ys first then =
-    subst (λ p. AtEachRead P p ys) (append-nil past) then
+AtEachRead-append P past [] ys first then = grind (arith, append-nil)
 AtEachRead-append P past (Read ∷ xs) ys first then = (
   first.0,
   AtEachRead-append P (past ++ Read ∷ []) xs ys first.1
@@ -102,9 +91,4 @@ IsFlushed-last events = (events, [], refl, refl)
 -- writes after a read that gave no bytes
 pub EndsInEmptyRead-writes : (events more : List Event) → AreWrites more
     → EndsInEmptyRead events → EndsInEmptyRead (events ++ more)
-EndsInEmptyRead-writes events more writes (before, after, is, then) = (
-  before,
-  after ++ more,
-  ap (λ xs. xs ++ more) is ∙ append_assoc before (Read ∷ after) more,
-  AreWrites-append after more then writes,
-)
+EndsInEmptyRead-writes events more writes is = grind (arith, append_assoc, AreWrites-append)

@@ -1,6 +1,6 @@
 -- The bytes of a buffer, and those after them after a read.
 use Rattle.std.proofs.Common.{◌≡◌, ℕ, ◌+◌, ◌-◌, ◌<◌, ◌≤◌, List, ◌++◌, length, get_or, take, drop}
-use Rattle.std.proofs.Common.{sym, ap, ◌∙◌, arith}
+use Rattle.std.proofs.Common.{arith}
 use Rattle.std.specs.List.{slice_range}
 use Rattle.std.proofs.Math.Seq.{take-add}
 use Rattle.std.proofs.lemmas.List.{drop-drop, drop-take, get_or-take}
@@ -25,9 +25,7 @@ module _ (size : ℕ) (bytes : List ℕ) (given from checked filled n : ℕ) (he
   pub held_rest : slice_range bytes (from + n) filled ≡ drop n held
   held_rest =
       let size : filled - from ≡ n + (filled - (from + n)) = omega (arith, inside) in
-      sym (ap (λ k. drop n (take k (drop from bytes))) size
-      ∙ (drop-take n (filled - (from + n)) (drop from bytes)
-      ∙ ap (take (filled - (from + n))) (drop-drop n from bytes))) ∙ ap (drop n) view
+      grind (arith, drop-take, drop-drop)
 
   -- where the bytes are after `n` were taken, of which one is not less than 128
   pub laid_after : (m : ℕ) → IsAsciiLength (slice_range bytes (from + n) filled) m
@@ -38,8 +36,7 @@ module _ (size : ℕ) (bytes : List ℕ) (given from checked filled n : ℕ) (he
 
 module _ (old new : List ℕ) (filled : ℕ) (front : take filled new ≡ take filled old) where
   pub at_front : (k : ℕ) → k < filled → get_or new k 0 ≡ get_or old k 0
-  at_front k inside = sym (get_or-take filled new k 0 inside)
-      ∙ (ap (λ xs. get_or xs k 0) front ∙ get_or-take filled old k 0 inside)
+  at_front k inside = grind (arith, inside, get_or-take)
 
   -- what is held after a read
   pub held_more : (from n : ℕ) → from ≤ filled
@@ -47,17 +44,7 @@ module _ (old new : List ℕ) (filled : ℕ) (front : take filled new ≡ take f
       (filled + n)
   held_more from n low =
       let size : filled + n - from ≡ (filled - from) + n = omega arith in
-      let tail : from + (filled - from) ≡ filled = omega arith in
-      let more : filled + n - filled ≡ n = omega arith in
-      let kept : slice_range new from filled ≡ slice_range old from filled =
-      between_is new from filled ∙ (ap (drop from) front ∙ sym (between_is old from filled)) in
-      let rest : take n (drop (filled - from) (drop from new)) ≡ slice_range new filled
-      (filled + n) =
-      ap (take n) (drop-drop (filled - from) from new ∙ ap (λ k. drop k new) tail)
-      ∙ ap (λ k. take k (drop filled new)) (sym more) in
-      ap (λ k. take k (drop from new)) size ∙ (take-add (filled - from) n (drop from new)
-      ∙ (ap (λ xs. xs ++ take n (drop (filled - from) (drop from new))) kept
-      ∙ ap (λ xs. slice_range old from filled ++ xs) rest))
+      grind (arith, between_is, drop-drop, take-add)
 
   -- where the bytes are after a read, if all before it are less than 128
   pub refilled : (size given from n m : ℕ) → IsLaidOut size old given from filled filled

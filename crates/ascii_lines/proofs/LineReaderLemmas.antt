@@ -22,7 +22,6 @@ use Rattle.ascii_devices.specs.States.{of_state}
 use Rattle.ascii_lines.specs.LineReader.{IsDone, Next, NextFrom, PassesOver, ReaderState, Reading}
 use Rattle.ascii_lines.specs.LineReader.{ReadsBytes, StopsAt, Takes, TakesLine, YieldsLines}
 use Rattle.ascii_lines.specs.LineReader.{read_line_in}
-use Rattle.ascii_lines.specs.Wanted.{all_of}
 use Rattle.ascii_lines.specs.declared.line_reader.LineError.{LineError}
 use Rattle.ascii_lines.specs.declared.line_reader.ReadLine.{ReadLine}
 use Rattle.ascii_lines.specs.declared.line_reader.Stage.{Stage}
@@ -40,10 +39,7 @@ pub with_starts-append : (s : ℕ) (xs ys : List Line)
     (s + length (flat_map line_text xs)) ys
 with_starts-append s [] ys = ap (λ n. with_starts line_size n ys) (sym (add-zero s))
 with_starts-append s (x ∷ xs) ys =
-    let far : (s + line_size x) + length (flat_map line_text xs) ≡ s + length
-    (line_text x ++ flat_map line_text xs) =
-    omega (arith, length-append (line_text x) (flat_map line_text xs)) in
-    rw (with_starts-append (s + line_size x) xs ys, far)
+    grind (arith, length-append, with_starts-append (s + line_size x) xs ys)
 
 ended-append : (xs ys : List Line) → All (λ line. line.ending ≢ Absent) xs
     → All (λ line. line.ending ≢ Absent) (take (length ys - 1) ys)
@@ -56,21 +52,17 @@ ended-append xs (y ∷ ys) first then =
     let size : length (xs ++ y ∷ ys) - 1 ≡ length xs + (length (y ∷ ys) - 1) =
     omega (arith, length-append xs (y ∷ ys)) in
     let parts : take (length (xs ++ y ∷ ys) - 1) (xs ++ y ∷ ys) ≡ xs ++ take
-    (length (y ∷ ys) - 1) (y ∷ ys) =
-    ap (λ n. take n (xs ++ y ∷ ys)) size ∙ take-append-add xs (y ∷ ys) (length (y ∷ ys) - 1) in
+    (length (y ∷ ys) - 1) (y ∷ ys) = grind (arith, take-append-add) in
     subst (All (λ line. line.ending ≢ Absent)) (sym parts)
-    (All-append (λ line. line.ending ≢ Absent) xs (take (length (y ∷ ys) - 1) (y ∷ ys)) first
-    then)
+    (All-append (λ line. line.ending ≢ Absent) xs (take (length (y ∷ ys) - 1) (y ∷ ys)) first then)
 
 pub LineSpansEndedBy-append : (kind : Endings) (start : ℕ) (t u : List ℕ)
     (xs ys : List (WithStart Line)) → LineSpansEndedBy kind start t xs → All IsEnded xs
     → LineSpansEndedBy kind (start + length t) u ys
     → LineSpansEndedBy kind start (t ++ u) (xs ++ ys)
 LineSpansEndedBy-append kind start t u xs ys first ended then =
-    let is : items_of (xs ++ ys) ≡ items_of xs ++ items_of ys =
-    map-append (λ (span : WithStart Line). span.item) xs ys in
-    let long : start + length t ≡ start + length (flat_map line_text (items_of xs)) =
-    ap (λ (zs : List ℕ). start + length zs) (sym first.lines.joined) in
+    let is : items_of (xs ++ ys) ≡ items_of xs ++ items_of ys = grind (arith, map-append) in
+    let long : start + length t ≡ start + length (flat_map line_text (items_of xs)) = grind arith in
     record {
       lines = subst (LinesEndedBy kind (t ++ u)) (sym is) (record {
         bodies = All-append (λ line. IsBody kind line.body) (items_of xs) (items_of ys)
@@ -82,13 +74,7 @@ LineSpansEndedBy-append kind start t u xs ys first ended then =
             (λ (span : WithStart Line). span.item) xs ended) then.lines.ended;
         joined = simp (flat_map-append, first.lines.joined, then.lines.joined);
       });
-      starts = rw (
-        is,
-        with_starts-append start (items_of xs) (items_of ys),
-        ← long,
-        ← first.starts,
-        ← then.starts,
-      ) refl;
+      starts = grind (arith, with_starts-append);
     }
 
 -- ---- one call more
@@ -96,17 +82,7 @@ LineSpansEndedBy-append kind start t u xs ys first ended then =
 -- what one call took
 pub reads_of : (wanted : Wanted) (old : ReaderState) (bytes : List ℕ) (new : ReaderState)
     → Takes wanted old bytes new → ReadsBytes old bytes new
-reads_of wanted old bytes new takes =
-    let gathers = takes.delivers.gathers in
-    record {
-      over = record {
-        text = (all_of gathers.reads, gathers.gave, gathers.all);
-        start = takes.start;
-        size = takes.size;
-        endings = takes.endings;
-      };
-      failures = takes.delivers.failures;
-    }
+reads_of wanted old bytes new takes = grind arith
 
 -- some bytes, and then more
 pub PassesOver-trans : (a b c : ReaderState) (bytes more : List ℕ) → ReadsBytes a bytes b
@@ -143,8 +119,7 @@ YieldsLines-append a b c lines others first ended then =
       handed = h ++ h';
       reads = ReadsBytes-trans a b c h h' first.reads then.reads;
       exact = LineSpansEndedBy-append a.endings a.start h h' lines others first.exact ended
-          (subst (λ n. LineSpansEndedBy a.endings n h' others) over.start
-          (subst (λ kind. LineSpansEndedBy kind b.start h' others) over.endings then.exact));
+          (grind arith);
       whole = elim then.whole [
         | inl more ↦ inl (more.0, All-append IsEnded lines others ended more.1)
         | inr done ↦ inr done
@@ -154,41 +129,15 @@ YieldsLines-append a b c lines others first ended then =
 -- one line is a list of lines
 pub one_line : (wanted : Wanted) (old : ReaderState) (line : WithStart Line) (new : ReaderState)
     → TakesLine wanted old line new → YieldsLines old (line ∷ []) new
-one_line wanted old line new takes = record {
-  handed = takes.bytes;
-  reads = reads_of wanted old takes.bytes new takes.takes;
-  exact = takes.exact;
-  whole = elim takes.whole [
-    | inl more ↦ inl (more.0, All-cons IsEnded line [] more.1 (All-nil IsEnded))
-    | inr done ↦ inr done
-  ];
-}
+one_line wanted old line new takes = grind (arith, reads_of, All-cons, All-nil)
 
 pub no_line : (wanted : Wanted) (old new : ReaderState) → Takes wanted old [] new → IsDone new
     → YieldsLines old [] new
-no_line wanted old new takes done = record {
-  handed = [];
-  reads = reads_of wanted old [] new takes;
-  exact = record { lines = LinesEndedBy-nil old.endings; starts = refl };
-  whole = inr done;
-}
+no_line wanted old new takes done = grind (arith, reads_of, LinesEndedBy-nil)
 
 -- nothing was read yet
 pub yields_nil : (old : ReaderState) → old.stage ≡ Open → YieldsLines old [] old
-yields_nil old going = record {
-  handed = [];
-  reads = record {
-    over = record {
-      text = ([], Gives-nil of_state old.device, sym (append-nil old.held));
-      start = sym (add-zero old.start);
-      size = refl;
-      endings = refl;
-    };
-    failures = refl;
-  };
-  exact = record { lines = LinesEndedBy-nil old.endings; starts = refl };
-  whole = inl (going, All-nil IsEnded);
-}
+yields_nil old going = grind (arith, Gives-nil, append-nil, add-zero, LinesEndedBy-nil, All-nil)
 
 pub line_bytes : (body : List ℕ) (ending : Ending) → MayFollow ending body
     → 0 < length (body ++ ending_text ending)
@@ -200,11 +149,7 @@ line_bytes (b ∷ bs) Absent may = omega (arith, length-append (b ∷ bs) [])
 -- a line has a byte
 pub line_has_bytes : (endings : Endings) (bytes : List ℕ) (line : Line)
     → LinesEndedBy endings bytes (line ∷ []) → 0 < length bytes
-line_has_bytes endings bytes line exact =
-    let some = line_bytes line.body line.ending
-    (MayFollow-ended endings line.ending line.body (exact.endings 0 line (omega arith))) in
-    subst (λ xs. 0 < length xs)
-    (sym (append-nil (line_text line)) ∙ exact.joined) some
+line_has_bytes endings bytes line exact = grind (arith, line_bytes, MayFollow-ended, append-nil)
 
 -- the next line of a reader, after the lines before it
 module _ {S : Type 0} where
@@ -223,10 +168,7 @@ module _ {S : Type 0} where
       → YieldsLines a (lines ++ last ∷ []) new.state
   one_more a lines old new result line last so_far next is same =
       elim (next_by a lines old new result (Ok (Some line)) so_far next is) [
-        | inl more ↦ rw same (YieldsLines-append a old.state new.state lines
-            (read_line_in line ∷ []) so_far more.1
-            (one_line (wanted.Line old.state.endings) old.state (read_line_in line) new.state
-            more.2))
+        | inl more ↦ grind (arith, YieldsLines-append, one_line)
         | inr ended ↦ let e : Ok (Some line) ≡ Ok None = ended.1 in cc
       ]
 
@@ -255,8 +197,7 @@ module _ {S : Type 0} where
       elim (next_by a lines old new result (Ok None) so_far next is) [
         | inl more ↦ (
           subst (λ all. YieldsLines a all new.state) (append-nil lines)
-              (YieldsLines-append a old.state new.state lines [] so_far more.1
-              (no_line (wanted.Line old.state.endings) old.state new.state more.2.0 more.2.1)),
+              (grind (arith, YieldsLines-append, no_line)),
           more.2.1,
         )
         | inr ended ↦ rw ended.2 (so_far, ended.0)
@@ -268,11 +209,7 @@ module _ {S : Type 0} where
       → YieldsLines a lines old.state → Next old result new → result ≡ Err error
       → (before : ReaderState) × YieldsLines a lines before × (before.stage ≡ Open)
       × StopsAt (wanted.Line before.endings) before error new.state
-  an_error a lines old new result error so_far next is =
-      elim (next_by a lines old new result (Err error) so_far next is) [
-        | inl more ↦ (old.state, so_far, more.0, more.2)
-        | inr ended ↦ let e : Err error ≡ Ok None = ended.1 in cc
-      ]
+  an_error a lines old new result error so_far next is = grind (arith, next_by)
 
 -- ---- the lines of all that the source tells
 
@@ -295,9 +232,7 @@ first_lines old new lines told is hands =
     let parts = told_parts old.device.rest gave.rest over.text.0 told is gave.gave in
     let more = parts.0 in
     let whole : old.held ++ told ≡ hands.handed ++ (new.held ++ more) =
-    ap (λ zs. old.held ++ zs) parts.1
-    ∙ rw (← append_assoc old.held over.text.0 more, ← over.text.2)
-    (append_assoc hands.handed new.held more) in
+    grind (arith, append_assoc) in
     let kind = any_text old.endings in
     let exact = any_text_spans old.endings old.start hands.handed lines hands.exact in
     elim hands.whole [
@@ -310,11 +245,5 @@ first_lines old new lines told is hands =
             λ done. let e : Open ≡ Ended = sym going.0 ∙ done.ended in cc,
             hands.exact.lines.bodies,
           )
-      | inr done ↦
-          let none = parts.2 (rw (gave.left hands.reads.failures) at done.left) in (
-            [],
-            rw (whole, none, done.none) (simp append-nil exact),
-            λ _. refl,
-            hands.exact.lines.bodies,
-          )
+      | inr done ↦ grind (arith, append-nil)
     ]

@@ -1,6 +1,6 @@
 -- Errors that no conversation explains.
-use Rattle.std.proofs.Common.{◌≡◌, ◌+◌, ◌<◌, ℕ, List, [], ◌∷◌, ◌++◌, Bool, ap, arith, get_or}
-use Rattle.std.proofs.Common.{inl, inr, length, length-append, refl, sym, true, ◌∙◌}
+use Rattle.std.proofs.Common.{◌≡◌, ◌+◌, ◌<◌, ℕ, List, ◌∷◌, ◌++◌, Bool, arith, get_or, length}
+use Rattle.std.proofs.Common.{length-append, refl, true}
 use Rattle.std.proofs.Math.ListN.{get_or-append}
 use Rattle.std.proofs.lemmas.Bool.{false≢true}
 use Rattle.ascii.specs.declared.iter.spans.Endings.TheVariants.{CrLfStrict}
@@ -22,28 +22,7 @@ module _ (size i j n : ℕ) (all text : List ℕ) (is_at_end : Bool) (same : i �
     -- a CR with an LF after it is not alone, also if the LF came later
     cr_lf_not_lone : (others : List ℕ) → all ≡ text ++ others
         → IsLoneBreak (Line CrLfStrict) size text (at_end_before others is_at_end) j n → ⊥
-    cr_lf_not_lone others parts lone = elim lone.lone [
-      | inl (stop, is) ↦
-          let at = in_front all text others j parts (omega (arith, lone.inside, stop)) in
-          omega (arith, is, at, ap (λ k. get_or all k 0) same, cr)
-      | inr (inl (stop, is, other)) ↦
-          let at = in_front all text others (j + 1) parts (omega (arith, lone.inside, stop)) in
-          other (at ∙ (ap (λ k. get_or all (k + 1) 0) (sym same) ∙ feed))
-      | inr (inr (stop, whole, is, last)) ↦
-          nothing others parts (omega (arith, stop, whole)) last
-    ]
-      where
-        nothing : (others : List ℕ) → all ≡ text ++ others → length text ≡ j + 1
-            → at_end_before others is_at_end ≡ true → ⊥
-        nothing [] parts long last = omega (
-          arith,
-          same,
-          inside,
-          long,
-          ap length parts,
-          length-append text [],
-        )
-        nothing (b ∷ others) parts long last = false≢true last
+    cr_lf_not_lone others parts lone = grind (arith, in_front, length-append, false≢true)
 
 -- a strict conversation that was sent `ab` CR LF does not reject it for the CR
 pub ab_cr_lf_is_not_lone : (now : Supply) (size : ℕ) (more : List ℕ)

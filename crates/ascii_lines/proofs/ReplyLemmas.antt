@@ -1,6 +1,6 @@
 -- Replies of a handler, one after another.
 use Rattle.std.proofs.Common.{◌≡◌, ℕ, List, [], ◌∷◌, ◌++◌, Bool, true, false, IsTrue, append_assoc}
-use Rattle.std.proofs.Common.{append-nil, Result, ap, inl, inr, refl, subst, sym, ◌∙◌, arith}
+use Rattle.std.proofs.Common.{append-nil, Result, ap, inl, inr, refl, ◌∙◌, arith}
 use Rattle.std.proofs.lemmas.Bool.{false≢true}
 use Rattle.std.proofs.lemmas.Grind.{flat_map-append}
 use Rattle.std.proofs.lemmas.List.Folds.{list_all_at}
@@ -10,7 +10,7 @@ use Rattle.ascii_devices.specs.Buffered.{OutputState}
 use Rattle.ascii_lines.specs.Failures.{one_more}
 use Rattle.ascii_lines.specs.LineWriter.{FailsToWrite, WritesBytes}
 use Rattle.ascii_lines.specs.Replies.{Reply, IsLineOutcome, Says, SaysBytes, Saying, is_unbroken}
-use Rattle.ascii_lines.specs.Replies.{line_given, line_reply, part_reply, reply_bytes, reply_text}
+use Rattle.ascii_lines.specs.Replies.{line_given, line_reply, part_reply, reply_text}
 use Rattle.ascii_lines.proofs.WriteBufferLemmas.{Passes-prefix, Passes-trans, PassesPrefix-more}
 
 -- ---- bytes after bytes
@@ -36,19 +36,7 @@ FailsToWrite-more {a} {b} xs ys fails = grind (arith, PassesPrefix-more)
 -- nothing was written
 SaysBytes-nil : (broken : Bool) (a : OutputState) → a.buffer.is_broken ≡ broken
     → SaysBytes broken a [] a
-SaysBytes-nil false a whole = inl (record {
-  passed = record {
-    sent = [];
-    took = Appends-nil a.taken;
-    told = record { events = []; grows = Grows-nil a.history; writes = tt; noted = refl };
-    all = sym (append-nil a.buffer.bytes);
-  };
-  failures = refl;
-  aside = refl;
-  stage = whole;
-  size = refl;
-})
-SaysBytes-nil true a is = refl
+SaysBytes-nil broken a whole = grind (arith, Appends-nil, Grows-nil, append-nil)
 
 -- bytes, and then more
 SaysBytes-trans : (p q : Bool) (a b c : OutputState) (xs ys : List ℕ)
@@ -58,14 +46,10 @@ SaysBytes-trans false false a b c xs ys was is (inl first) (inl then) =
     inl (WritesBytes-trans xs ys first then)
 SaysBytes-trans false false a b c xs ys was is (inl first) (inr then) =
     inr (FailsToWrite-after xs ys first then)
-SaysBytes-trans false false a b c xs ys was is (inr first) then =
-    absurd (false≢true (sym is ∙ first.stage))
-SaysBytes-trans false true a b c xs ys was is (inl first) then =
-    absurd (false≢true (sym first.stage ∙ is))
-SaysBytes-trans false true a b c xs ys was is (inr first) then =
-    inr (subst (λ d. FailsToWrite a d (xs ++ ys)) (sym then) (FailsToWrite-more xs ys first))
-SaysBytes-trans true false a b c xs ys was is first then = absurd (false≢true
-    (sym is ∙ (ap (λ (out : OutputState). out.buffer.is_broken) first ∙ was)))
+SaysBytes-trans false false a b c xs ys was is (inr first) then = grind (arith, false≢true)
+SaysBytes-trans false true a b c xs ys was is (inl first) then = grind (arith, false≢true)
+SaysBytes-trans false true a b c xs ys was is (inr first) then = grind (arith, FailsToWrite-more)
+SaysBytes-trans true false a b c xs ys was is first then = absurd (grind (arith, false≢true))
 SaysBytes-trans true true a b c xs ys was is first then = then ∙ first
 
 -- ---- replies after replies
@@ -79,11 +63,7 @@ module _ {K : Type 0} where
   pub Says-trans : (a b c : Saying K) (first after : List Reply) → Says a first b
       → Says b after c → Says a (first ++ after) c
   Says-trans a b c first after one two = (
-    rw (flat_map-append (reply_text a.ending) first after)
-        (SaysBytes-trans a.state.buffer.is_broken b.state.buffer.is_broken a.state b.state c.state
-        (reply_bytes a.ending first) (reply_bytes a.ending after) refl refl one.0
-        (subst (λ e. SaysBytes b.state.buffer.is_broken b.state (reply_bytes e after) c.state)
-        one.1 two.0)),
+    rw (flat_map-append (reply_text a.ending) first after) (grind (arith, SaysBytes-trans)),
     two.1 ∙ one.1,
   )
 

@@ -21,7 +21,7 @@ use Rattle.ascii_lines.specs.Exchanges.{bytes_of, said_in}
 use Rattle.ascii_lines.specs.History.{AreWrites, EndsInEmptyRead, TellsSent}
 use Rattle.ascii_lines.specs.LineBuffer.{ReadsOnce}
 use Rattle.ascii_lines.specs.LineWriter.{Flushes, FlushesFrom, Writing}
-use Rattle.ascii_lines.specs.Replies.{Reply, SaysBytes, Saying, Step, reply_bytes, reply_text}
+use Rattle.ascii_lines.specs.Replies.{Reply, SaysBytes, Saying, Step, reply_bytes}
 use Rattle.ascii_lines.specs.Serve.{AtEachRead, ChannelState, CountsBy, IsAnswered, IsFlushed}
 use Rattle.ascii_lines.specs.Serve.{IsRead, IsUnread, IsUp, ReadsOn, SendsOut, SentBy, Serves}
 use Rattle.ascii_lines.specs.Serve.{SoFar, Talk, Wrote, first_place, read_side, Conversing}
@@ -64,10 +64,8 @@ then_written a b c bytes events gives writes grows aside = record {
   gave = gives.gave;
   left = rw aside gives.left;
   told = subst (Tells received_of a.history c.history) (append-nil bytes)
-      (tells-more received_of received_of-append a.history b.history c.history bytes []
-      gives.told
-      (tells-by received_of b.history c.history events [] grows
-      (received_of-writes events writes)));
+      (tells-more received_of received_of-append a.history b.history c.history bytes [] gives.told
+      (grind (arith, tells-by, received_of-writes)));
 }
 
 pub supply_reads : (is_at_end : Bool) → supply_at is_at_end ≢ supply.Failed
@@ -187,30 +185,15 @@ module _ {H : Type 0} (answers : H → Line → List Reply → Next → H → Ty
       → (is_ended then ≡ true → (old.talk.is_at_end ≡ true) ⊎ EndsInEmptyRead (o.events ++ events))
       → (then ≢ supply.Failed → b.aside.failures ≡ old.output.aside.failures) → Base then new b
   base-more a b o whole steps more events said turns grows prompt gave took sent count at_end kept =
-      let before : sent_of o.events ++ a.buffer.bytes ≡ said_bytes o.steps = rw whole at o.sent in
-      let same : a.failures ≡ old.output.failures = rw whole at o.count in
-      record {
-        steps = steps;
-        events = o.events ++ events;
-        turns = turns;
-        grows = Grows-trans old.output.history a.history b.history o.events events o.grows grows;
-        prompt = AtEachRead-append Answered [] o.events events o.prompt prompt;
-        gave = gave;
-        took = rw (sent_of-append o.events events)
-            (Appends-trans old.output.taken a.taken b.taken (sent_of o.events) (sent_of events)
-            o.took took);
-        sent = rw (
-          sent_of-append o.events events,
-          said,
-          flat_map-append (reply_text old.ending) (said_in o.steps) more,
-        )
-            (SentBy-after b.buffer.is_broken (sent_of o.events) (sent_of events) b.buffer.bytes
-            a.buffer.bytes old.output.buffer.bytes (reply_bytes old.ending (said_in o.steps))
-            (reply_bytes old.ending more) before sent);
-        count = rw same at count;
-        at_end = at_end;
-        kept = kept;
-      }
+      grind (
+        arith,
+        Grows-trans,
+        AtEachRead-append,
+        sent_of-append,
+        Appends-trans,
+        flat_map-append,
+        SentBy-after,
+      )
 
   -- writes, for the replies to more steps
   base-writes : {now : Supply} {mid new : Place H} (a b : OutputState) → Base now mid a
@@ -223,21 +206,12 @@ module _ {H : Type 0} (answers : H → Line → List Reply → Next → H → Ty
       → Appends a.taken b.taken sent → b.aside ≡ a.aside → Base now new b
   base-writes {now} {mid} {new} a b o whole more turns sent told held count took aside =
       let same : received_of (o.events ++ told.events) ≡ received_of o.events =
-      received_of-append o.events told.events
-      ∙ (ap (λ xs. received_of o.events ++ xs) (received_of-writes told.events told.writes)
-      ∙ append-nil (received_of o.events)) in
-      base-more a b o whole (o.steps ++ more) (said_in more) told.events
-      (said-append o.steps more)
-      (rw same (Turns-append answers refuses endings size now
-      (first_place old handler (received_of o.events)) mid new o.steps more o.turns turns))
+      grind (arith, received_of-append, received_of-writes, append-nil) in
+      base-more a b o whole (o.steps ++ more) (said_in more) told.events (said-append o.steps more)
+      (grind (arith, Turns-append))
       told.grows (AtEachRead-writes Answered o.events told.events told.writes)
-      (rw same (then_written old.output a b (received_of o.events) told.events o.gave told.writes
-      told.grows aside))
-      (rw told.noted took) (rw told.noted held) count
-      (λ is. elim (o.at_end is) [
-        | inl was ↦ inl was
-        | inr ends ↦ inr (EndsInEmptyRead-writes o.events told.events told.writes ends)
-      ]) (rw aside o.kept)
+      (grind (arith, then_written)) (rw told.noted took) (rw told.noted held) count
+      (grind (arith, EndsInEmptyRead-writes)) (rw aside o.kept)
 
   -- the replies to more steps
   base-says : {now : Supply} {mid new : Place H} (a b : OutputState) → Base now mid a
@@ -345,11 +319,8 @@ module _ {H : Type 0} (answers : H → Line → List Reply → Next → H → Ty
           (read_fails of_state (read_side a) (read_side b) once.failures once.told))
           (λ is. absurd (false≢true is)) (λ apart. absurd (apart refl))
       | inr same ↦ base-read [] []
-          (subst (λ (d : SourceState). Grows a.history d.history []) (sym same)
-          (Grows-nil a.history)) refl refl tt (ap (λ (d : SourceState). d.aside.bytes) same)
-          (ap (λ (d : SourceState). d.aside.failures) same)
-          (subst (λ d. Gives of_state (read_side old.output) d (received_of s.base.events ++ []))
-          (sym same) (rw (append-nil (received_of s.base.events)) s.base.gave))
+          (grind (arith, Grows-nil)) refl refl tt (ap (λ (d : SourceState). d.aside.bytes) same)
+          (ap (λ (d : SourceState). d.aside.failures) same) (grind (arith, append-nil))
           (λ is. absurd (false≢true is)) (λ apart. absurd (apart refl))
     ])
 
@@ -461,19 +432,13 @@ module _ {H : Type 0} (answers : H → Line → List Reply → Next → H → Ty
             → Serves answers refuses old handler stop.Writer now.state last
         go false whole fails = serves_writer fails.1.aside sends.1 fails.1.stage
             (base-says mid.state.output now.state.output base_of whole [] refl (inr fails.1))
-        go true broken fails =
-            let is : now.state.output ≡ mid.state.output =
-            ap (λ (w : Writing C). w.state) fails.1 in
-            serves_writer (ap (λ (out : OutputState). out.aside) is) sends.1
-            (ap (λ (out : OutputState). out.buffer.is_broken) is ∙ broken)
-            (subst (Base so.talk.now (place_of now.state.talk last)) (sym is) base_of)
+        go true broken fails = grind (arith, serves_writer, base_of)
 
     -- they were sent
     module _ (done : Unit {0}) (sends : SendsOut (saying_of mid) (Ok done) (saying_of now)) where
       flushed : (mid.state.output.buffer.is_broken ≡ false)
           × Flushes mid.state.output now.state.output
-      flushed = flushed_by mid.state.output.buffer.is_broken (writing_of mid) (writing_of now) done
-          sends.0
+      flushed = grind (arith, flushed_by)
 
       settled : Settled so.talk.now (place_of now.state.talk last) now.state.output
       settled = base-flushed mid.state.output now.state.output base_of flushed.0 flushed.1
@@ -532,15 +497,7 @@ module _ {H : Type 0} (answers : H → Line → List Reply → Next → H → Ty
           reads_smaller low = rw (← same) (go r.now r.reads converses_now)
             where
               some : 0 < reads_left now.state.talk
-              some = omega (
-                arith,
-                reads_all now.state.talk.awaited now.state.talk apart,
-                ap (λ (t : TalkState). t.start) same,
-                low,
-                lacks_length endings size now.state.talk.awaited now.state.talk.start
-                    now.state.talk.held lacks_now,
-                so.talk.size,
-              )
+              some = grind (arith, reads_all, lacks_length, lacks_now)
 
               go : (now' : Supply)
                   → IsRead now' (read_side now.state.output) (read_side r.mid.state) r.read
@@ -562,9 +519,7 @@ module _ {H : Type 0} (answers : H → Line → List Reply → Next → H → Ty
                     r.size,
                     reads_most new.awaited new,
                   )
-              go _ reads c =
-                  let over : IsOver new.awaited = elim c.closed [ inl is ↦ cc | inr over ↦ over ] in
-                  rw over.1 some
+              go _ reads c = grind (arith, some)
 
 -- a line is awaited, and steps were taken
 pub resumed : {H C : Type 0} (answers : H → Line → List Reply → Next → H → Type 0)

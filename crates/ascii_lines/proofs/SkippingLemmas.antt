@@ -47,10 +47,7 @@ module _ (bytes text : List ℕ) where
           (right_at (j - 1) ∙ stop.0),
       right_at j ∙ stop.1,
     )
-    | inr none ↦
-        let here : get_or text j 0 ≡ 13 =
-        subst (λ i. get_or text i 0 ≡ 13) (omega (arith, none)) stop.0 in
-        absurd (omega (arith, here, stop.1))
+    | inr none ↦ grind arith
   ]
   stop_back CrLfStrict plain j stop = cc
 
@@ -61,16 +58,14 @@ module _ (bytes text : List ℕ) where
     free_join m after k low = λ stop. elim (cases_lt k (length bytes)) [
       | inl early ↦ FreeUpTo-more endings bytes text (length bytes) (omega arith) free k early stop
       | inr late ↦ after (k - length bytes) (omega (arith, low, late))
-          (stop_right endings plain clean (k - length bytes)
-          (subst (StopsAt endings (bytes ++ text)) (omega (arith, late)) stop))
+          (grind (arith, stop_right, clean))
     ]
 
     stop_join : (n : ℕ) → IsFirstStop endings text n
         → IsFirstStop endings (bytes ++ text) (length bytes + n)
     stop_join n stops = record {
       some = omega (arith, stops.some);
-      last = subst (StopsAt endings (bytes ++ text)) (omega (arith, stops.some))
-          (stop_back endings plain (n - 1) stops.last);
+      last = grind (arith, stop_back);
       free = subst (FreeUpTo endings (bytes ++ text)) (omega (arith, stops.some))
           (free_join (n - 1) stops.free);
     }
@@ -115,14 +110,8 @@ kept_clean endings bytes text n within clean kept cr_lf cr = elim kept [
   | inl none ↦ elim (cases_lt 0 n) [
     | inl some ↦
         let long = length-take-le n text within in
-        let last : get_or (take n text) (n - 1) 0 ≡ 13 =
-        sym (get_or-append-add bytes (take n text) (n - 1) 0)
-        ∙ subst (λ i. get_or (bytes ++ take n text) i 0 ≡ 13)
-        (omega (arith, long, length-append bytes (take n text), some)) cr in
-        absurd (none cr_lf last)
-    | inr empty ↦
-        let zero : n ≡ 0 = omega (arith, empty) in
-        rw zero (clean cr_lf (rw (zero, append-nil) at cr))
+        grind (arith, get_or-append-add, long, length-append)
+    | inr empty ↦ grind (arith, clean, append-nil)
   ]
   | inr kept ↦ starts_cr (drop n text)
       (get_or-drop n text 0 0 ∙ subst (λ i. get_or text i 0 ≡ 13) (omega arith) kept)
@@ -143,17 +132,14 @@ module _ (endings : Endings) (plain : any_text endings ≡ endings) (limit : ℕ
   taken = so_far.bytes ++ take n now.held
 
   all : taken ++ after.held ≡ so_far.bytes ++ now.held
-  all = append_assoc so_far.bytes (take n now.held) after.held
-      ∙ ap (λ xs. so_far.bytes ++ xs)
-      (ap (λ xs. take n now.held ++ xs) pass.held ∙ take-append-drop n now.held)
+  all = grind (arith, append_assoc, take-append-drop)
 
   gathered : Gathers (HasNoEnd endings) old.held old.is_at_end after.is_at_end a b
       (taken ++ after.held)
   gathered = rw (pass.at_end, all) so_far.gathers
 
   long : length taken ≡ length so_far.bytes + n
-  long = length-append so_far.bytes (take n now.held)
-      ∙ ap (λ k. length so_far.bytes + k) (length-take-le n now.held inside)
+  long = grind (arith, length-append, length-take-le, inside)
 
   -- what may yet be taken, after the bytes that were
   reach : length so_far.bytes + (limit - passed.count) ≡ limit
@@ -238,18 +224,7 @@ pub passed_more : (endings : Endings) (limit : ℕ) (old now after : WindowState
     → after.held ≡ now.held ++ read → after.is_at_end ≡ (length read == 0)
     → after.size ≡ now.size → PassedSoFar endings limit old after a c passed
 passed_more endings limit old now after a b c passed read all more reads is last size =
-    let so_far = all.so_far in
-    record {
-      bytes = so_far.bytes;
-      gathers = Gathers-read _ _ _ _ _ _ _ _ _ read so_far.gathers more so_far.failures all.none
-          (so_far.bytes ++ after.held) reads (simp (is, append_assoc)) last;
-      counts = so_far.counts;
-      within = so_far.within;
-      free = so_far.free;
-      clean = rw is (clean_more endings so_far.bytes now.held read so_far.clean);
-      failures = reads.failures ∙ so_far.failures;
-      size = size ∙ so_far.size;
-    }
+    grind (arith, all, Gathers-read, append_assoc, free, clean, clean_more)
 
 -- nothing was taken yet
 pub passed_none : (endings : Endings) (limit : ℕ) (buffer : WindowState) (a : SourceState)
@@ -273,17 +248,7 @@ pub pass_failed : (endings : Endings) (limit : ℕ) (old now after : WindowState
     → after.held ≡ now.held → after.is_at_end ≡ now.is_at_end → after.size ≡ now.size
     → PassesLine endings limit old after a c passed end.Failed
 pass_failed endings limit old now after a b c passed all more fails count is last size =
-    let so_far = all.so_far in
-    record {
-      bytes = so_far.bytes;
-      gathers = Gathers-failed _ _ _ _ _ _ _ _ _ _ so_far.gathers more so_far.failures all.none
-          fails (ap (λ xs. so_far.bytes ++ xs) is) last;
-      counts = so_far.counts;
-      within = so_far.within;
-      ends = rw is (all.none, all.one, so_far.clean);
-      failures = count ∙ ap one_more so_far.failures;
-      size = size ∙ so_far.size;
-    }
+    grind (arith, all, Gathers-failed)
 
 -- a read has returned no bytes, and the bytes that are left are taken
 pub pass_ends : (endings : Endings) (limit : ℕ) (old now after : WindowState) (a b : SourceState)
@@ -291,15 +256,4 @@ pub pass_ends : (endings : Endings) (limit : ℕ) (old now after : WindowState) 
     → now.is_at_end ≡ true → (k : ℕ) → k ≡ length now.held → PassesBytes k now after passed passed'
     → PassesLine endings limit old after a b passed' end.Input
 pass_ends endings limit old now after a b passed passed' all last k whole pass =
-    let so_far = all.so_far in
-    let high : length now.held ≤ k = omega (arith, whole) in
-    let held = pass.held ∙ drop_all k now.held high in
-    record {
-      bytes = so_far.bytes ++ now.held;
-      gathers = rw (held, append-nil, pass.at_end) so_far.gathers;
-      counts = rw (take_all k now.held high) at (pass.counts so_far.bytes so_far.counts);
-      within = omega (arith, length-append so_far.bytes now.held, all.reach);
-      ends = (all.none, held, pass.at_end ∙ last);
-      failures = so_far.failures;
-      size = pass.size ∙ so_far.size;
-    }
+    grind (arith, all, drop_all, append-nil, take_all, length-append)

@@ -1,6 +1,6 @@
 -- What the steps of a conversation say of its input.
-use Rattle.std.proofs.Common.{◌≡◌, ◌+◌, ◌<◌, ℕ, List, [], ◌∷◌, ◌++◌, ap, arith, inl, inr, length}
-use Rattle.std.proofs.Common.{length-append, refl, subst, sym}
+use Rattle.std.proofs.Common.{◌≡◌, ◌+◌, ◌<◌, ℕ, List, [], ◌∷◌, ◌++◌, ap, arith, length}
+use Rattle.std.proofs.Common.{length-append, refl}
 use Rattle.std.proofs.lemmas.List.{nil_from_length}
 use Rattle.ascii.specs.Lines.{Line}
 use Rattle.ascii.specs.declared.iter.spans.Ending.TheVariants.{Absent}
@@ -45,39 +45,21 @@ module _ {H : Type 0} (answers : H → Line → List Reply → Next → H → Ty
       → Turns answers refuses endings size now a (before ++ rejected error said ∷ after) c
       → Explains endings size now (a.start + length (bytes_of before)) (bytes_of after ++ c.text)
       error
-  faults_at a c before error said after turns =
-      let (p, q, first, turn, then) = Turns-split a c before (rejected error said) after turns in
-      go p q (Turns-bytes answers refuses endings size now a p before first).1
-      (Turns-bytes answers refuses endings size now q c after then).0 p.awaited turn
-    where
-      go : (p q : Place H) → p.start ≡ a.start + length (bytes_of before)
-          → q.text ≡ bytes_of after ++ c.text → (awaited : Awaited)
-          → IsTurnAt answers refuses endings size now awaited p (rejected error said) q
-          → Explains endings size now (a.start + length (bytes_of before))
-          (bytes_of after ++ c.text) error
-      go p q start left (Input asked) t = (asked, t.1, t.4, rw (← start, ← left, t.7) t.6)
-      go p q start left _ t = absurd t
+  faults_at a c before error said after turns = grind (arith, Turns-split, Turns-bytes)
 
   -- ---- after the last byte
 
   -- what is awaited after a step was asked for
   requests : (a b : Place H) (step : Step) → IsTurn answers refuses endings size now a step b
       → IsRequested a.awaited → IsRequested b.awaited
-  requests a b step turn = go a.awaited step turn
-    where
-      go : (awaited : Awaited) (step : Step)
-          → IsTurnAt answers refuses endings size now awaited a step b → IsRequested awaited
-          → IsRequested b.awaited
-      go awaited step t request = grind (arith, requests_by)
+  requests a b step turn = grind (arith, requests_by)
 
   -- what is given has a byte
   some_given : (asked : Next) (what : Wanted) (bytes left : List ℕ) (input : Line)
       → Wants endings asked what → IsRequested (Input asked) → IsInputOf what bytes input
       → Completes now what bytes left → 0 < length bytes
-  some_given asked (wanted.Part n) bytes left input wants request is completes = elim completes [
-    | inl ends ↦ ends_some endings asked (wanted.Part n) bytes (length bytes) wants request ends
-    | inr last ↦ absurd last.2
-  ]
+  some_given asked (wanted.Part n) bytes left input wants request is completes =
+      grind (arith, ends_some)
   some_given asked _ bytes left input wants request is completes =
       line_has_bytes _ bytes input is.0
 
@@ -88,10 +70,8 @@ module _ {H : Type 0} (answers : H → Line → List Reply → Next → H → Ty
   takes_nothing a c (step ∷ steps) ended none request (mid, turn, turns) =
       let bytes = (turn_bytes answers refuses endings size now a mid step turn).0 in
       let long = length-append (step_bytes step) mid.text in
-      let taken : step_bytes step ≡ [] = nil_from_length (step_bytes step)
-      (omega (arith, ap length none, ap length bytes, long)) in
-      let left : mid.text ≡ [] = nil_from_length mid.text
-      (omega (arith, ap length none, ap length bytes, long)) in
+      let taken : step_bytes step ≡ [] = grind (arith, nil_from_length) in
+      let left : mid.text ≡ [] = grind (arith, nil_from_length) in
       let then = takes_nothing mid c steps ended left (requests a mid step turn request) turns in
       (go a.awaited step request turn taken then.0, then.1)
     where
@@ -116,12 +96,4 @@ module _ {H : Type 0} (answers : H → Line → List Reply → Next → H → Ty
       → input.ending ≡ Absent → Turns answers refuses endings size now b steps c
       → TakesNothing steps × (c.text ≡ [])
   unended_last a b c input said steps line turn absent turns =
-      let t = subst (λ w. IsTurnAt answers refuses endings size now w a (took input said) b) line
-      turn in
-      let is = rw t.5 at t.6 in
-      let completes = rw t.5 at t.7 in
-      elim completes [
-        | inl whole ↦ absurd (is.2 whole absent)
-        | inr last ↦ takes_nothing b c steps last.0 last.1
-            (requests a b (took input said) turn (subst IsRequested (sym line) tt)) turns
-      ]
+      grind (arith, takes_nothing, requests)

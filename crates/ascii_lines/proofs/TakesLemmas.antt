@@ -12,14 +12,13 @@ use Rattle.ascii.specs.declared.iter.spans.Endings.TheVariants.{CrLfStrict}
 use Rattle.ascii.proofs.LinesByLemmas.{no_cr_below}
 use Rattle.ascii_devices.specs.States.{SourceState}
 use Rattle.ascii_lines.specs.LineBuffer.{IsUsable, WindowState}
-use Rattle.ascii_lines.specs.LineReader.{Finds, FindsEnd, IsLookedFor, IsTaken, Looks, StopsBy}
-use Rattle.ascii_lines.specs.LineReader.{TakesOff, window_at}
+use Rattle.ascii_lines.specs.LineReader.{Finds, FindsEnd, IsLookedFor, Looks, StopsBy, TakesOff}
+use Rattle.ascii_lines.specs.LineReader.{window_at}
 use Rattle.ascii_lines.specs.Wanted.{FindsFault, IsCutOff, IsEndOf, IsFar, IsLoneBreak, IsSearched}
 use Rattle.ascii_lines.specs.Wanted.{EndsAt, Gathers, IsOne, IsRefusal, IsStrict, IsUnfit}
 use Rattle.ascii_lines.specs.Wanted.{LacksUpTo, MayBeLast, MayHave, MustRead, failures_after}
 use Rattle.ascii_lines.specs.declared.line_reader.LineError.{LineError}
-use Rattle.ascii_lines.specs.declared.line_reader.LineError.TheVariants.{Incomplete, LoneBreak}
-use Rattle.ascii_lines.specs.declared.line_reader.LineError.TheVariants.{Read, TooFar}
+use Rattle.ascii_lines.specs.declared.line_reader.LineError.TheVariants.{Read}
 use Rattle.ascii_lines.specs.declared.wanted.Found.{Found}
 use Rattle.ascii_lines.specs.declared.wanted.Wanted.{Wanted}
 use Rattle.ascii_lines.specs.declared.wanted.Wanted.TheVariants.{Line, Part}
@@ -58,12 +57,7 @@ module _ (wanted : Wanted) (start : ℕ) (buffer : WindowState) (n : ℕ)
   -- a part is longer than all bytes
   cut_off : ¬ (MayBeLast wanted is_last)
       → IsCutOff wanted buffer.held buffer.is_at_end × (n ≡ length buffer.held)
-  cut_off not_last = go wanted is_last not_last finds.may finds.stops
-    where
-      go : (wanted : Wanted) (is_last : Bool) → ¬ (MayBeLast wanted is_last)
-          → MayHave wanted bytes → StopsBy wanted buffer n is_last
-          → IsCutOff wanted buffer.held buffer.is_at_end × (n ≡ length buffer.held)
-      go wanted is_last not_last may stops = grind (arith, take_all)
+  cut_off not_last = grind (arith, take_all)
 
   -- the byte at `i` is CR, the last, and not after a CR
   abbrev LastCr : ℕ → Type 0
@@ -135,14 +129,7 @@ module _ (wanted : Wanted) (start : ℕ) (buffer : WindowState) (n : ℕ)
           let stop = rw found.0 at stops in (
             found.0,
             lone i stop.free (λ last. absurd (elim stop.last [
-              | inl feed ↦
-                  let same : n - 1 ≡ i = omega (arith, last.0, long) in
-                  omega (
-                    arith,
-                    rw same at feed,
-                    last.1,
-                    byte_at i (omega (arith, last.0, long)),
-                  )
+              | inl feed ↦ grind (arith, long, byte_at)
               | inr cr ↦ last.2 (n - 1 - 1) (omega (arith, long, cr.0))
                   (byte_at (n - 1 - 1) (omega (arith, cr.0)) ∙ cr.1)
             ])) (refl, found.1),
@@ -151,12 +138,7 @@ module _ (wanted : Wanted) (start : ℕ) (buffer : WindowState) (n : ℕ)
   -- why it is not given
   pub end_rejects : (error : LineError) → IsEndOf wanted start bytes is_last (Err error)
       → Looks wanted start buffer (Err error)
-  end_rejects (Incomplete count) (is, not_last) =
-      let cut = cut_off not_last in ((omega (arith, is, long, cut.1), cut.0), λ is. cc)
-  end_rejects TooFar beyond = (far beyond, λ is. cc)
-  end_rejects (LoneBreak place) (i, is, found) =
-      let alone = lone_break i found in ((alone.0, (i, n, is, alone.1)), λ is. cc)
-  end_rejects _ end = absurd end
+  end_rejects error beyond = grind (arith, cut_off, long, far, lone_break)
 
   line : (endings : Endings) → FreeUpTo endings buffer.held (n - 1) → IsWhole endings bytes
       → bytes ≢ [] → IsOneLine endings bytes
@@ -174,12 +156,7 @@ module _ (wanted : Wanted) (start : ℕ) (buffer : WindowState) (n : ℕ)
   -- it is given
   pub end_found : (place : ℕ) → IsEndOf wanted start bytes is_last (Ok place)
       → Finds wanted start buffer (record { count = n; end = place; is_last = is_last })
-  end_found place (is, whole, last) = record {
-    ends = finds;
-    place = is ∙ ap (λ k. start + k) long;
-    one = one wanted is_last finds.stops (free_by wanted buffer n is_last finds.stops) whole last;
-    last = last;
-  }
+  end_found place is = grind (arith, long, one, free_by)
 
 -- ---- what a look into a buffer finds
 
@@ -195,11 +172,7 @@ module _ (wanted : Wanted) (start : ℕ) (ended : Bool) (buffer : WindowState) w
   -- a part does not fit
   pub unfit_looks : (error : LineError) → IsUnfit wanted start buffer.size error
       → Looks wanted start window (Err error)
-  unfit_looks error unfit = go wanted error unfit
-    where
-      go : (wanted : Wanted) (error : LineError) → IsUnfit wanted start buffer.size error
-          → Looks wanted start window (Err error)
-      go wanted error unfit = grind arith
+  unfit_looks error unfit = grind arith
 
   module _ (part : List ℕ) (usable : IsUsable wanted buffer part) where
     -- what was searched is among the bytes that may be in what is wanted
@@ -216,8 +189,7 @@ module _ (wanted : Wanted) (start : ℕ) (ended : Bool) (buffer : WindowState) w
             within,
             subst (λ xs. IsSearched wanted xs searched) (sym usable.front)
                 (searched_front buffer.held (length part) searched within wanted
-                (searched_whole buffer.held searched searched (omega arith) wanted
-                (searched_lacks wanted front searched (rw long at read.2)))),
+                (grind (arith, searched_whole, searched_lacks, long))),
           )
     ]
 
@@ -229,17 +201,13 @@ module _ (wanted : Wanted) (start : ℕ) (ended : Bool) (buffer : WindowState) w
       may = subst (MayHave wanted)
           (ap (take n) usable.front ∙ take-take n (length part) buffer.held found.0)
           (may_front wanted part n usable.may);
-      stops = ends_whole buffer.held (length part) n found.0 wanted
-          (subst (λ text. EndsAt wanted text n) usable.front found.1);
+      stops = grind (arith, ends_whole);
     }
 
     pub refusal_looks : LacksUpTo wanted part (length part) → length part < length buffer.held
         → (error : LineError) → IsRefusal start (length part) buffer.size error
         → Looks wanted start window (Err error)
-    refusal_looks lacks less error refusal = (
-      rejects wanted start buffer part usable lacks less ended error refusal,
-      λ is. rw is at refusal,
-    )
+    refusal_looks lacks less error refusal = grind (arith, rejects)
 
 -- no read has failed, if the error is not that of one
 pub counts_none : (n : ℕ) (error : LineError) → error ≢ Read → failures_after n error ≡ n
@@ -256,29 +224,5 @@ pub takes_off : (wanted : Wanted) (start : ℕ) (old buffer new : WindowState) (
     → buffer.size ≡ old.size → b.failures ≡ a.failures → new.given ≡ take found.count buffer.held
     → new.held ≡ drop found.count buffer.held → new.is_at_end ≡ buffer.is_at_end
     → TakesOff wanted start old new a b found.end found.is_last
-takes_off wanted start old buffer new a b found finds gathers same kept given held at_end = record {
-  delivers = record {
-    gathers = rw (given, held, take-append-drop found.count buffer.held, at_end) gathers;
-    may = rw given finds.ends.may;
-    fits = omega (arith, long, finds.ends.fits, same);
-    failures = kept;
-  };
-  place_is = finds.place ∙ ap (λ k. start + k) (sym long);
-  taken = taken found.is_last finds.ends.stops;
-  last = finds.last;
-  one = rw given finds.one;
-}
-  where
-    long : length new.given ≡ found.count
-    long = ap length given ∙ length-take-le found.count buffer.held finds.ends.within
-
-    taken : (is_last : Bool) → StopsBy wanted buffer found.count is_last
-        → IsTaken wanted is_last new
-    taken true stops =
-        let high : length buffer.held ≤ found.count = omega (arith, stops.0) in (
-          held ∙ drop_all found.count buffer.held high,
-          at_end ∙ stops.1,
-          rw (given ∙ take_all found.count buffer.held high) (rw stops.0 at stops.2),
-        )
-    taken false stops = rw (long, given)
-        (ends_front buffer.held found.count found.count (omega arith) wanted stops)
+takes_off wanted start old buffer new a b found finds gathers same kept given held at_end =
+    grind (arith, take-append-drop, one, length-take-le, drop_all, take_all, ends_front)

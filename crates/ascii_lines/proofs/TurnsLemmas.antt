@@ -66,12 +66,7 @@ module _ {H : Type 0} (answers : H → Line → List Reply → Next → H → Ty
 
   pub turn_bytes : (a b : Place H) (step : Step) → IsTurn answers refuses endings size now a step b
       → (a.text ≡ step_bytes step ++ b.text) × (b.start ≡ a.start + length (step_bytes step))
-  turn_bytes a b step turn = go a.awaited step turn
-    where
-      go : (awaited : Awaited) (step : Step)
-          → IsTurnAt answers refuses endings size now awaited a step b
-          → (a.text ≡ step_bytes step ++ b.text) × (b.start ≡ a.start + length (step_bytes step))
-      go awaited step t = grind (arith, input_bytes, append-nil)
+  turn_bytes a b step turn = grind (arith, turn, input_bytes, append-nil)
 
   -- steps take bytes, and go on after them
   pub Turns-bytes : (a b : Place H) (steps : List Step)
@@ -79,10 +74,7 @@ module _ {H : Type 0} (answers : H → Line → List Reply → Next → H → Ty
       → (a.text ≡ bytes_of steps ++ b.text) × (b.start ≡ a.start + length (bytes_of steps))
   Turns-bytes a b [] same = rw same (refl, omega arith)
   Turns-bytes a b (step ∷ steps) (mid, turn, turns) =
-      let first = turn_bytes a mid step turn in let then = Turns-bytes mid b steps turns in (
-        simp (first.0, then.0, append_assoc),
-        omega (arith, first.1, then.1, length-append (step_bytes step) (bytes_of steps)),
-      )
+      grind (arith, turn_bytes, turn, append_assoc, length-append, Turns-bytes mid b steps turns)
 
 -- ---- more bytes
 
@@ -105,15 +97,8 @@ faults_more : (now : Supply) (what : Wanted) (start size : ℕ) (text more : Lis
     (error : LineError) → Faults supply.Open what start size text error
     → (now ≡ supply.Ended → text ++ more ≡ [] → error ≡ fault.Incomplete 0)
     → Faults now what start size (text ++ more) error
-faults_more now what start size text more error (seen, others, is, why, read, some) none = (
-  seen,
-  others ++ more,
-  simp (is, append_assoc),
-  rejects_any what start size seen (at_end_before (others ++ more) (is_ended now)) error
-      (rw (no_end_before others) at why),
-  λ same. absurd (not_failed (read same).0),
-  none,
-)
+faults_more now what start size text more error is none =
+    grind (arith, append_assoc, rejects_any, no_end_before, not_failed)
 
 -- no bytes show an error in place of a line, after which a conversation goes on
 nothing_shown : (endings : Endings) (start size : ℕ) (is_at_end : Bool) (error : LineError)
@@ -147,13 +132,7 @@ skips_more now endings then start bytes left more after skips = elim skips [
   | inl ends ↦ inl ends
   | inr (inl on) ↦ inr (inl (on.0, on.1, clean_more endings bytes left more on.2))
   | inr (inr (inl end)) ↦ absurd (not_ended end.1)
-  | inr (inr (inr why)) ↦ inr (inr (inr (
-    why.0,
-    why.1,
-    λ read. absurd (not_failed (why.2 read)),
-    why_more endings (2 ^ 64 - 1) start bytes left more why.0 (λ read. not_failed (why.2 read))
-        why.3,
-  )))
+  | inr (inr (inr why)) ↦ grind (arith, not_failed, why_more)
 ]
 
 module _ {H : Type 0} (answers : H → Line → List Reply → Next → H → Type 0)
@@ -186,13 +165,7 @@ module _ {H : Type 0} (answers : H → Line → List Reply → Next → H → Ty
             ap length is,
             length-append seen others,
           )) in
-          elim goes [
-            | inl on ↦
-                let line : what ≡ wanted.Line endings = rw on.1 at wants in
-                absurd (on.2 (nothing_shown endings a.start size (at_end_before others false)
-                error (rw (line, empty) at why)))
-            | inr over ↦ absurd (apart ended (stop.Reader error, over.0))
-          ]
+          grind (arith, nothing_shown)
 
       stops : (asked : Next) (why : Stop) → Stops supply.Open asked a.text why
           → Stops now asked (a.text ++ more) why
@@ -202,19 +175,12 @@ module _ {H : Type 0} (answers : H → Line → List Reply → Next → H → Ty
           → IsTurnAt answers refuses endings size supply.Open awaited a step b
           → IsTurnAt answers refuses endings size now awaited (with_more a more) step
           (with_more b more)
-      go (Input asked) (took input said) t =
-          let whole : Completes now t.1 t.2 (b.text ++ more) = elim t.7 [
-            | inl ends ↦ inl ends
-            | inr last ↦ absurd (not_ended last.0)
-          ] in
-          let text : a.text ++ more ≡ t.2 ++ (b.text ++ more) = simp (t.9, append_assoc) in
-          (t.0, t.1, t.2, t.3, t.4, t.5, t.6, whole, t.8, text, t.10)
+      go (Input asked) (took input said) t = grind (arith, not_ended, append_assoc)
       go (Input asked) (rejected error said) t =
           let faults = faults_more now t.1 a.start size a.text more error t.6
           (shown t.1 asked t.0 error t.4 t.2 t.6) in
           (t.0, t.1, t.2, t.3, t.4, t.5, faults, ap (λ xs. xs ++ more) t.7, t.8)
-      go (Input asked) (skipped bytes) t =
-          (t.0, t.1, stops asked t.0 t.2, ap (λ (p : Place H). with_more p more) t.3)
+      go (Input asked) (skipped bytes) t = grind (arith, stops)
       go (LineEnd then) (skipped bytes) t = (
         t.0,
         simp (t.1, append_assoc),
@@ -283,15 +249,7 @@ module _ {H K : Type 0} (answers : H → Line → List Reply → Next → H → 
 
   pub Going-first : IsRequested old.awaited
       → (old.awaited ≡ Nothing stop.EndOfInput → old.text ≡ []) → Going old out
-  Going-first request used = record {
-    steps = [];
-    turns = refl;
-    says = Says-nil out;
-    request = request;
-    used = used;
-    ended = λ is. inl is;
-    failed = λ is. is;
-  }
+  Going-first request used = grind (arith, Says-nil)
 
   module _ (mid : Place H) (said : Saying K) (going : Going mid said) where
     -- one step more
@@ -316,19 +274,7 @@ module _ {H K : Type 0} (answers : H → Line → List Reply → Next → H → 
         → Converses answers refuses endings size now old out new after
     then_over new after step turn says why is other broken =
         let more = steps-more new after step turn says in
-        record {
-          steps = more.0;
-          turns = more.1;
-          says = more.2;
-          rests = (
-            rw is tt,
-            inr ((why, is), λ ends. absurd (other (over_by why stop.EndOfInput is ends))),
-          );
-          closed = inr (why, is);
-          written = inl (why, is);
-          ended = λ ends. absurd (other (over_by why stop.EndOfInput is ends));
-          failed = λ ends. inr (broken (over_by why stop.Writer is ends));
-        }
+        grind (arith, over_by)
 
     -- the replies cannot be written
     pub then_breaks : ¬ (IsOver mid.awaited) → said.state.buffer.is_broken ≡ true
@@ -341,9 +287,7 @@ module _ {H K : Type 0} (answers : H → Line → List Reply → Next → H → 
         turn : (awaited : Awaited) → ¬ (IsOver awaited)
             → IsTurnAt answers refuses endings size now awaited mid (skipped [])
             (record mid { awaited = Nothing stop.Writer })
-        turn (Input asked) apart = (stop.Writer, refl, tt, refl)
-        turn (LineEnd then) apart = (refl, refl, omega arith, inr (refl, refl))
-        turn (Nothing why) apart = absurd (apart (why, refl))
+        turn awaited apart = grind arith
 
     pub then_goes : (kind : Endings) (room : ℕ) → kind ≡ endings → room ≡ size → (new : Place H)
         (after : Saying K)
@@ -352,16 +296,7 @@ module _ {H K : Type 0} (answers : H → Line → List Reply → Next → H → 
         let t : TurnOutcome answers refuses endings size now mid said true new after =
         rw (same, sized) at turn in
         let more = steps-more new after t.0 t.1 t.2 in
-        let sound = λ (why : Stop) (is : new.awaited ≡ Nothing why). rw is at t.3 in
-        record {
-          steps = more.0;
-          turns = more.1;
-          says = more.2;
-          request = sound_request now new.awaited new.text t.3;
-          used = λ is. (sound stop.EndOfInput is).1;
-          ended = λ is. inr (sound stop.EndOfInput is).0;
-          failed = λ is. absurd (sound stop.Writer is);
-        }
+        grind (arith, sound_request)
 
 -- a conversation is fed with some bytes, and then with more: the steps are those of both together
 pub feed_joins : {H K : Type 0} (answers : H → Line → List Reply → Next → H → Type 0)
@@ -395,16 +330,7 @@ module _ {H K : Type 0} (answers : H → Line → List Reply → Next → H → 
       → Rests endings size awaited start text
       → Converses answers refuses endings size now (place_at awaited handler start text) out
       (place_at awaited handler start text) out
-  over_rests now awaited over rests = record {
-    steps = [];
-    turns = refl;
-    says = Says-nil out;
-    rests = rests;
-    closed = inr over;
-    written = inl over;
-    ended = λ is. inl is;
-    failed = λ is. inl is;
-  }
+  over_rests now awaited over rests = grind (arith, Says-nil)
 
   -- ---- a read that failed
 
@@ -481,27 +407,14 @@ module _ {H K : Type 0} (answers : H → Line → List Reply → Next → H → 
           (then, what, take n text, refl, request, wants, is, stops.1, tells, parts, place),
           rw (append-nil gave) says,
           sound_by now then (drop n text) request,
-          omega (
-            arith,
-            left_by then (drop n text),
-            length-drop n text,
-            finds.ends.within,
-            stops.0,
-          ),
+          grind (arith, left_by, length-drop),
         )
       where
         go : (is_last : Bool) → StopsBy what (window_at ended buffer) found.count is_last
             → MayBeLast what is_last → (0 < found.count)
             × Completes now what (take found.count text) (drop found.count text)
-        go false ends last = (
-          ends_some endings asked what text found.count wants asks ends,
-          inl (rw (length-take-le found.count text finds.ends.within)
-              (ends_front text found.count found.count (omega arith) what ends)),
-        )
-        go true ends last = (
-          omega (arith, ends.0, some_length text (some ends.1)),
-          inr (ap supply_at ends.1, drop_all found.count text (omega (arith, ends.0)), last),
-        )
+        go is_last ends last =
+            grind (arith, ends_some, length-take-le, ends_front, some_length, drop_all)
 
     pub turn_faults : (asked : Next) (what : Wanted) (error : LineError) (gave : List Reply)
         (then : Next) (after : Awaited) → (ended ≡ true → text ≢ []) → Wants endings asked what
@@ -552,14 +465,8 @@ module _ {H K : Type 0} (answers : H → Line → List Reply → Next → H → 
     turn_lacks asked n gave then is asks ended none says tells request =
         let some : 0 < n = rw is at asks in
         let error = fault.Incomplete 0 in
-        let faults : Faults now (wanted.Part n) start buffer.size text error = (
-          text,
-          [],
-          sym (append-nil text),
-          rw none (refl, (ap is_ended ended, IsAscii-nil, some)),
-          λ is. cc,
-          λ _ _. refl,
-        ) in
+        let faults : Faults now (wanted.Part n) start buffer.size text error =
+        grind (arith, append-nil, IsAscii-nil) in
         subst (λ a. TurnOutcome answers refuses endings buffer.size now (here (Input a)) out true
         (place_at (Nothing (stop.Reader error)) last start text) said) (sym is) (
           rejected error gave,
@@ -579,24 +486,19 @@ module _ {H K : Type 0} (answers : H → Line → List Reply → Next → H → 
         let sound : IsSound now after left × (left_of after left < 2 * length text + 1) =
         grind (arith, sound_by, left_by) in
         (skipped t.0, (refl, t.1, t.2, inl t.4), Says-nil out, sound.0, sound.1)
-    turn_skips false then after place left request t =
-        (rw (t.2, t.1, t.0), refl, t.3, (t.4, t.5, t.6))
+    turn_skips false then after place left request t = grind arith
 
 pub rests_lacks : (endings : Endings) (size : ℕ) (awaited : Awaited) (start : ℕ) (held : List ℕ)
     → Rests endings size awaited start held → ¬ (IsOver awaited)
     → Lacks endings size awaited start held
-rests_lacks endings size awaited start held rests apart =
-    elim rests.1 [ inl lacks ↦ lacks | inr over ↦ absurd (apart over.0) ]
+rests_lacks endings size awaited start held rests apart = grind arith
 
 -- a conversation that rests has searched all bytes that it holds
 pub rests_searched : (endings : Endings) (size : ℕ) (awaited : Awaited) (start : ℕ)
     (held : List ℕ) (n : ℕ) → Rests endings size awaited start held → ¬ (IsOver awaited)
     → n ≡ length held → IsSearchedFor endings size awaited start held n
-rests_searched endings size awaited start held n rests apart all = inr (
-  omega (arith, all),
-  rw (take_all n held (omega (arith, all)))
-      (rests_lacks endings size awaited start held rests apart),
-)
+rests_searched endings size awaited start held n rests apart all =
+    grind (arith, take_all, rests_lacks)
 
 -- ---- bytes of a line that was rejected
 

@@ -1,6 +1,6 @@
 -- Whether what is wanted is among some bytes, and why it is not given.
 use Rattle.std.proofs.Common.{◌≡◌, ◌≢◌, ℕ, ◌+◌, ◌<◌, ◌≤◌, List, Bool, length, take, arith, get_or}
-use Rattle.std.proofs.Common.{subst, sym, [], ◌∷◌, refl, ◌-◌}
+use Rattle.std.proofs.Common.{sym, [], ◌∷◌, refl, ◌-◌}
 use Rattle.std.proofs.lemmas.List.{get_or-take}
 use Rattle.std.proofs.lemmas.Str.{IsAscii-take}
 use Rattle.std.specs.Str.{IsAscii}
@@ -8,7 +8,7 @@ use Rattle.ascii.specs.Bytes.{FirstOther}
 use Rattle.ascii.proofs.EndingsLemmas.{FreeUpTo-same, IsFirstStop-same}
 use Rattle.ascii_lines.specs.LineBuffer.{IsBarred, IsUsable, WindowState}
 use Rattle.ascii_lines.specs.Wanted.{EndsAt, IsSearched, LacksUpTo, MayHave, MustRead, IsFar}
-use Rattle.ascii_lines.specs.Wanted.{IsOtherIn, IsOver, IsRefusal, Rejects}
+use Rattle.ascii_lines.specs.Wanted.{IsOtherIn, IsRefusal, Rejects}
 use Rattle.ascii_lines.specs.declared.line_reader.LineError.{LineError}
 use Rattle.ascii_lines.specs.declared.line_reader.LineError.TheVariants as error
 use Rattle.ascii_lines.specs.declared.wanted.Wanted.{Wanted}
@@ -38,9 +38,7 @@ module _ (held : List ℕ) (m n : ℕ) (low : n ≤ m) where
   searched_front (Part count) free = tt
 
   pub ends_front : (wanted : Wanted) → EndsAt wanted held n → EndsAt wanted (take m held) n
-  ends_front (Line endings) ends = IsFirstStop-same endings held (take m held) n at_whole ends
-  ends_front (Bytes endings) ends = IsFirstStop-same endings held (take m held) n at_whole ends
-  ends_front (Part count) is = is
+  ends_front wanted ends = grind (arith, IsFirstStop-same, at_whole)
 
   pub lacks_whole : (wanted : Wanted) → LacksUpTo wanted (take m held) n
       → LacksUpTo wanted held n
@@ -55,9 +53,7 @@ module _ (held : List ℕ) (m n : ℕ) (low : n ≤ m) where
   searched_whole (Bytes endings) free = lacks_whole (Bytes endings) free
 
   pub ends_whole : (wanted : Wanted) → EndsAt wanted (take m held) n → EndsAt wanted held n
-  ends_whole (Line endings) ends = IsFirstStop-same endings (take m held) held n at_front ends
-  ends_whole (Bytes endings) ends = IsFirstStop-same endings (take m held) held n at_front ends
-  ends_whole (Part count) is = is
+  ends_whole wanted ends = grind (arith, IsFirstStop-same, at_front)
 
 pub searched_lacks : (wanted : Wanted) (text : List ℕ) (n : ℕ) → LacksUpTo wanted text n
     → IsSearched wanted text n
@@ -96,8 +92,7 @@ must_reads wanted start size held must = grind arith
 module _ (wanted : Wanted) (start : ℕ) (buffer : WindowState) (part : List ℕ)
     (usable : IsUsable wanted buffer part) (lacks : LacksUpTo wanted part (length part)) where
   here : LacksUpTo wanted buffer.held (length part)
-  here = lacks_whole buffer.held (length part) (length part) (omega arith) wanted
-      (subst (λ xs. LacksUpTo wanted xs (length part)) usable.front lacks)
+  here = grind (arith, lacks_whole)
 
   barred : length part < length buffer.held → length part ≢ buffer.size
       → IsOtherIn wanted buffer.size buffer.held (length part)
@@ -107,12 +102,7 @@ module _ (wanted : Wanted) (start : ℕ) (buffer : WindowState) (part : List ℕ
   pub rejects : length part < length buffer.held → (is_at_end : Bool) (error : LineError)
       → IsRefusal start (length part) buffer.size error
       → Rejects wanted start buffer.size buffer.held is_at_end error
-  rejects less is_at_end (error.TooLong place) (full, is) =
-      (is, over wanted (subst (MayHave wanted) usable.front usable.may) here)
-    where
-      over : (wanted : Wanted) → MayHave wanted (take (length part) buffer.held)
-          → LacksUpTo wanted buffer.held (length part) → IsOver wanted buffer.size buffer.held
-      over wanted may here = grind arith
+  rejects less is_at_end (error.TooLong place) (full, is) = grind (arith, here)
   rejects less is_at_end (error.NotAscii place) (other, is) = (length part, is, barred less other)
   rejects less is_at_end error.TooFar (other, far) = beyond wanted here
     where

@@ -1,6 +1,6 @@
 -- Bytes that were written through a buffer, one piece after another.
-use Rattle.std.proofs.Common.{◌≡◌, ℕ, List, [], ◌++◌, ap, sym, subst, ◌∙◌, append_assoc, append-nil}
-use Rattle.std.proofs.Common.{OnErr, Result, Bool, true, false, ◌-◌, ◌^◌, ◌<◌, arith}
+use Rattle.std.proofs.Common.{◌≡◌, ℕ, List, [], ◌++◌, append_assoc, append-nil, OnErr, Result, Bool}
+use Rattle.std.proofs.Common.{true, false, ◌-◌, ◌^◌, ◌<◌, arith}
 use Rattle.std.proofs.KnownBytes.{Appends-trans}
 use Rattle.ascii_devices.specs.Buffered.{AppendsBy, AppendsBytes, FinishOutcome, OutputState}
 use Rattle.ascii_devices.specs.Buffered.{SendsFront}
@@ -13,13 +13,8 @@ use Rattle.ascii_lines.proofs.HistoryLemmas.{TellsSent-trans, TellsSent-write}
 -- one piece and then another
 pub Passes-trans : {a b c : OutputState} (first second : List ℕ)
     → Passes a b first → Passes b c second → Passes a c (first ++ second)
-Passes-trans {a} {b} {c} first second one two = record {
-  sent = one.sent ++ two.sent;
-  took = Appends-trans a.taken b.taken c.taken one.sent two.sent one.took two.took;
-  told = TellsSent-trans one.sent two.sent one.told two.told;
-  all = append_two one.sent two.sent c.buffer.bytes b.buffer.bytes a.buffer.bytes first second
-      one.all two.all;
-}
+Passes-trans {a} {b} {c} first second one two =
+    grind (arith, Appends-trans, TellsSent-trans, append_two)
 
 -- one piece, and then a part of another
 pub Passes-prefix : {a b c : OutputState} (first second : List ℕ)
@@ -29,8 +24,7 @@ Passes-prefix {a} {b} {c} first second one two = record {
   others = two.others;
   took = Appends-trans a.taken b.taken c.taken one.sent two.sent one.took two.took;
   told = TellsSent-trans one.sent two.sent one.told two.told;
-  all = append_two one.sent two.sent two.others b.buffer.bytes a.buffer.bytes first second
-      one.all two.all;
+  all = grind (arith, append_two);
 }
 
 -- a part of one piece is a part of it and more
@@ -41,8 +35,7 @@ PassesPrefix-more {a} {b} first second one = record {
   others = one.others ++ second;
   took = one.took;
   told = one.told;
-  all = sym (append_assoc one.sent one.others second)
-      ∙ (ap (λ xs. xs ++ second) one.all ∙ append_assoc a.buffer.bytes first second);
+  all = grind (arith, append_assoc);
 }
 
 -- ---- through the buffer of a sink
@@ -50,13 +43,7 @@ PassesPrefix-more {a} {b} first second one = record {
 -- the sink took a prefix
 front_of : (a b : OutputState) (bytes : List ℕ) → SendsFront a b (a.buffer.bytes ++ bytes)
     → PassesPrefix a b bytes
-front_of a b bytes (sent, others, sends, is) = record {
-  sent = sent;
-  others = others;
-  took = sends.0;
-  told = TellsSent-write sent sends.1;
-  all = is;
-}
+front_of a b bytes is = grind (arith, TellsSent-write)
 
 whole_by : (q : Bool) (a b : OutputState) (bytes : List ℕ) → AppendsBy false q a b bytes
     → q ≡ false → Passes a b bytes × (b.failures ≡ a.failures)
@@ -70,15 +57,7 @@ broken_by q a b bytes appends low some = grind (arith, front_of)
 -- bytes were appended to a buffer through which no write had failed
 pub puts : {a b : OutputState} (bytes : List ℕ) → a.buffer.is_broken ≡ false
     → a.failures < 2 ^ 64 - 1 → AppendsBytes a b bytes → PutsBytes a b bytes
-puts {a} {b} bytes ready low appends =
-    let q = b.buffer.is_broken in
-    let by = subst (λ p. AppendsBy p q a b bytes) ready appends.by_failure in
-    record {
-      whole = whole_by q a b bytes by;
-      broken = broken_by q a b bytes by low;
-      size = appends.size;
-      aside = appends.aside;
-    }
+puts {a} {b} bytes ready low appends = grind (arith, whole_by, broken_by)
 
 -- the bytes of a buffer were to be written, and a write or the flush failed
 pub finish_fails : (a b : OutputState) (result : Result (Unit {0}) DeviceFault)

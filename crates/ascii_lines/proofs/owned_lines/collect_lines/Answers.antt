@@ -1,4 +1,4 @@
-use Rattle.std.proofs.Common.{Ok, ◌∷◌, [], map, ap, refl, sym, ◌∙◌}
+use Rattle.std.proofs.Common.{Ok, ◌∷◌, [], map, ap, refl, sym, ◌∙◌, arith}
 use Rattle.std.proofs.lemmas.List.{map-append}
 use Rattle.std.proofs.lemmas.Option.{none-some}
 use Rattle.ascii_lines.specs.CollectedLines.{owned_line_in}
@@ -38,13 +38,10 @@ returns-in_err-push-in-Ok-Some-clause-lost g c =
     )
 
 pub returns-in-Ok-None-clause-runs : goal.returns-in-Ok-None-clause-runs
-returns-in-Ok-None-clause-runs g c = no_more _ _ c.lines.reader
-    c.next_line.follows.lender-at-none _ c.lines.invariant c.next_line.follows.holds-at-none
-    (c.in-Ok-None.is ∙ ap Ok c.in-Ok-None.field-0-is)
+returns-in-Ok-None-clause-runs g c = grind (arith, no_more)
 
 pub returns-in-Err-clause-runs : goal.returns-in-Err-clause-runs
-returns-in-Err-clause-runs g c = an_error _ _ c.lines.reader c.next_line.follows.lender-at-none _ _
-    c.lines.invariant c.next_line.follows.holds-at-none c.in-Err.is
+returns-in-Err-clause-runs g c = grind (arith, an_error)
 
 pub returns-in-Err-clause-first : goal.returns-in-Err-clause-first
 returns-in-Err-clause-first g c = λ told is.

@@ -1,5 +1,4 @@
-use Rattle.std.proofs.Common.{Ok, ◌≢◌, ◌∷◌, [], map, ap, arith, length-append, refl, sym, subst}
-use Rattle.std.proofs.Common.{◌∙◌}
+use Rattle.std.proofs.Common.{Ok, ◌≢◌, ◌∷◌, [], map, ap, arith, length-append, refl, ◌∙◌}
 use Rattle.std.proofs.lemmas.Bool.{false≢true}
 use Rattle.std.proofs.lemmas.List.{length-map, map-append}
 use Rattle.std.proofs.lemmas.List.Elements.{All-append, All-cons, All-nil}
@@ -15,8 +14,7 @@ abbrev IsFull : WithStart Line → Type 0
 IsFull line = line.item.body ≢ []
 
 pub lines-init : goal.lines-init
-lines-init g c = rw c.new-lines.ensures.items
-    (yields_nil c.args.reader.now.state c.requires, (All-nil IsFull, omega arith))
+lines-init g c = grind (arith, yields_nil, All-nil)
 
 pub returns-then-is_empty-clause-runs : goal.returns-then-is_empty-clause-runs
 returns-then-is_empty-clause-runs g c = (
@@ -59,22 +57,10 @@ lines-preserved g c =
           c.in_ok-owned_line-in-Ok-Some.ensures,
       (
         All-append IsFull so_far (owned_line_in kept ∷ []) c.lines.invariant.1.0
-            (All-cons IsFull (owned_line_in kept) []
-            (subst IsFull (sym c.in_ok-owned_line-in-Ok-Some.ensures)
-            (λ none. false≢true (c.if-is_empty.ensures.1 none)))
-            (All-nil IsFull)),
-        omega (
-          arith,
-          length-append so_far (owned_line_in kept ∷ []),
-          length-map c.lines.lines.items owned_line_in,
-          c.lines-test.true,
-          c.len.ensures,
-        ),
+            (grind (arith, All-cons, false≢true, All-nil)),
+        grind (arith, length-append, length-map),
       ),
     )
 
 pub returns-in-Ok-None-clause-runs : goal.returns-in-Ok-None-clause-runs
-returns-in-Ok-None-clause-runs g c =
-    let none = no_more _ _ c.lines.reader c.next_line.follows.lender-at-none _ c.lines.invariant.0
-    c.next_line.follows.holds-at-none (c.in-Ok-None.is ∙ ap Ok c.in-Ok-None.field-0-is) in
-    (c.lines.invariant.1, none.0, none.1)
+returns-in-Ok-None-clause-runs g c = grind (arith, no_more)

@@ -2,11 +2,10 @@ use Rattle.ascii_devices.specs.States.{source_state}
 use Rattle.ascii_lines.proofs.SkippingLemmas.{pass_ends, pass_failed, passed_more, passed_none}
 use Rattle.ascii_lines.proofs.SkippingLemmas.{passes_line, passes_on}
 use Rattle.ascii_lines.proofs.skipping.pass_line.Goals as goal
-use Rattle.std.proofs.Common.{inr, sym, ◌∙◌}
+use Rattle.std.proofs.Common.{inr, sym, ◌∙◌, arith}
 
 pub fills-init : goal.fills-init
-fills-init g c = passed_none c.args.endings c.args.limit c.args.buffer.now
-    (source_state g.S.Source c.args.source.now) c.requires.end
+fills-init g c = grind (arith, passed_none)
 
 pub returns-in-Some : goal.returns-in-Some
 returns-in-Some g c = passes_line _ c.requires.plain _ _ _ _ _ _ _ _ _ c.fills.invariant _ _

@@ -1,6 +1,5 @@
-use Rattle.std.proofs.Common.{Err, subst}
+use Rattle.std.proofs.Common.{arith}
 use Rattle.ascii_lines.specs.LineReader.{Looks, window_at}
-use Rattle.ascii_lines.specs.Wanted.{IsEndOf}
 use Rattle.ascii_lines.proofs.TakesLemmas.{end_found, end_rejects, from_err}
 use Rattle.ascii_lines.proofs.wanted.look_at.Goals as goal
 
@@ -11,8 +10,7 @@ returns-in_err-end g c =
     from_err c.from_residual.result error (Looks c.args.wanted c.args.start window)
     c.from_residual.ensures.1
     (end_rejects c.args.wanted c.args.start window c.args.n c.args.is_last c.requires error
-    (subst (λ bytes. IsEndOf c.args.wanted c.args.start bytes c.args.is_last (Err error))
-    c.front.ensures c.in_err-end.ensures))
+    (grind arith))
 
 pub returns : goal.returns
 returns g c = end_found c.args.wanted c.args.start (window_at c.args.is_ended c.args.buffer.now)

@@ -1,4 +1,4 @@
-use Rattle.std.proofs.Common.{[], ap, append-nil, refl, sym, ◌∙◌}
+use Rattle.std.proofs.Common.{[], ap, append-nil, refl, sym, ◌∙◌, arith}
 use Rattle.ascii_lines.specs.LineBuffer.{WindowState}
 use Rattle.ascii_lines.specs.Turns.{supply_at}
 use Rattle.ascii_lines.specs.declared.conversation.Supply.TheVariants as supply
@@ -16,8 +16,7 @@ returns-in-Ok g c =
       now = supply_at ended.result;
       buffer = c.in-Ok.ensures.buffer;
       ending = c.in-Ok.ensures.ending;
-      reads = rw ended.ensures
-          (read_is c.fill.new.buffer.is_at_end fills.outcome.0 fills.outcome.3 fills.outcome.1);
+      reads = grind (arith, read_is);
       converses = rw (fills.outcome.2, fills.size) at c.converse.ensures.converses;
       ended = supply_ended ended.result ∙ (ended.ensures ∙ sym c.converse.ensures.at_end);
       unread = λ is. absurd (supply_reads ended.result is);
@@ -37,8 +36,7 @@ returns-in-Err g c =
       ending = c.in-Err.ensures.ending;
       reads = (fills.outcome.0, refl);
       converses = rw (held, fills.size) at c.fail.ensures.converses;
-      ended = sym (ap (λ (w : WindowState). w.is_at_end) c.fail.ensures.buffer
-          ∙ (fills.outcome.2 ∙ (rw (← c.self.view_is) at c.requires.more)));
+      ended = grind arith;
       unread = λ is. then_right c.fail.ensures.unread (rw (← c.self.view_is) at c.requires.going);
       size = ap (λ (w : WindowState). w.size) c.fail.ensures.buffer ∙ fills.size;
       endings = c.fail.ensures.endings;

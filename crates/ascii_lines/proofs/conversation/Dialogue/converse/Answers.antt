@@ -1,16 +1,10 @@
-use Rattle.std.proofs.Common.{◌≡◌, inl, refl, rules, true, ◌∙◌}
+use Rattle.std.proofs.Common.{◌≡◌, inl, refl, rules, true, ◌∙◌, arith}
 use Rattle.ascii_lines.specs.Turns.{IsOver}
 use Rattle.ascii_lines.proofs.TurnsLemmas.{Going-first, then_breaks, then_goes}
 use Rattle.ascii_lines.proofs.conversation.Dialogue.converse.Goals as goal
 
 pub turns-init : goal.turns-init
-turns-init g c = (
-  Going-first _ _ _ _ _ _ _ c.requires.request c.requires.used,
-  refl,
-  refl,
-  refl,
-  c.requires.searched,
-)
+turns-init g c = grind (arith, Going-first)
 
 pub returns-then-is_broken-clause-converses : goal.returns-then-is_broken-clause-converses
 returns-then-is_broken-clause-converses g c =

@@ -1,19 +1,16 @@
-use Rattle.std.proofs.Common.{rules}
+use Rattle.std.proofs.Common.{rules, arith}
 use Rattle.ascii_lines.specs.Turns.{IsOver}
 use Rattle.ascii_lines.proofs.TurnsLemmas.{Going-first, fail_asked, fail_line, over_rests}
 use Rattle.ascii_lines.proofs.TurnsLemmas.{rests_lacks, then_breaks}
 use Rattle.ascii_lines.proofs.conversation.Dialogue.fail.Goals as goal
 
 pub returns-then-is_over-clause-converses : goal.returns-then-is_over-clause-converses
-returns-then-is_over-clause-converses g c =
-    let over : IsOver c.args.self.now.awaited = search rules in
-    over_rests _ _ _ _ _ _ _ _ _ _ over c.requires
+returns-then-is_over-clause-converses g c = grind (arith, over_rests)
 
 pub returns-then-is_broken-clause-converses : goal.returns-then-is_broken-clause-converses
 returns-then-is_broken-clause-converses g c =
     let apart : ¬ (IsOver c.args.self.now.awaited) = search rules in
-    then_breaks _ _ _ _ _ _ _ _ _ (Going-first _ _ _ _ _ _ _ c.requires.0
-    (λ is. absurd (apart (_, is)))) apart (search rules)
+    then_breaks _ _ _ _ _ _ _ _ _ (grind (arith, Going-first)) apart (search rules)
 
 pub returns-in-Input-clause-converses : goal.returns-in-Input-clause-converses
 returns-in-Input-clause-converses g c =
@@ -24,7 +21,4 @@ returns-in-Input-clause-converses g c =
     c.refuse-next.ensures.request)
 
 pub returns-in-LineEnd-clause-converses : goal.returns-in-LineEnd-clause-converses
-returns-in-LineEnd-clause-converses g c =
-    let apart : ¬ (IsOver c.args.self.now.awaited) = search rules in
-    rw c.in-LineEnd.is (fail_line _ _ _ _ _ _ _ _ _ (rw c.in-LineEnd.is at c.requires.0)
-    (rw c.in-LineEnd.is at (rests_lacks _ _ _ _ _ c.requires apart)))
+returns-in-LineEnd-clause-converses g c = grind (arith, fail_line, rests_lacks)

@@ -1,9 +1,7 @@
-use Rattle.std.proofs.Common.{rules, ◌==◌, ◌≡◌, ◌+◌, ◌++◌, ap, arith, drop, length, subst, take}
-use Rattle.std.proofs.Common.{◌∙◌}
+use Rattle.std.proofs.Common.{rules, ◌≡◌, ◌+◌, ◌++◌, ap, arith, drop, length, take, ◌∙◌}
 use Rattle.std.specs.List.{slice_range}
 use Rattle.std.proofs.lemmas.List.{take_at}
 use Rattle.ascii.proofs.ListLemmas.{length-slice_range}
-use Rattle.ascii_lines.specs.LineBuffer.{IsLaidOut, WindowState}
 use Rattle.ascii_lines.proofs.LineBufferLemmas.{held_more, refilled, refilled_other}
 use Rattle.ascii_lines.proofs.line_buffer.LineBuffer.refill.Goals as goal
 use Rattle.ascii_lines.proofs.line_buffer.LineBuffer.refill.Goals.{then-self, else-self}
@@ -13,8 +11,7 @@ put_back : (g : _) (c : goal.After-self-3-1 g)
     → take c.self.inside.bytes.len (c.read_behind.new.bytes
     ++ drop (length c.read_behind.new.bytes) c.self.inside.bytes.items)
     ≡ c.read_behind.new.bytes
-put_back g c = take_at c.read_behind.new.bytes _ c.self.inside.bytes.len
-    (c.read_behind.ensures.len ∙ c.deref_mut.ensures.len)
+put_back g c = grind (arith, take_at)
 
 -- the bytes before the read are unchanged
 front : (g : _) (c : goal.After-self-3-1 g)
@@ -26,22 +23,18 @@ pub invariant_of-self-2 : goal.invariant_of-self-2
 invariant_of-self-2 g c =
     let i = c.self.inside in
     let new = c.read_behind.new.bytes in
-    let same : length new ≡ length i.bytes.items =
-    c.read_behind.ensures.len ∙ ap length c.deref_mut.ensures.value in
+    let same : length new ≡ length i.bytes.items = grind arith in
     elim c.if-self.branch [
       | then-self w ↦
           let all : i.checked ≡ i.filled = search in
           rw (w.self-inside-is, put_back g c)
           (refilled i.bytes.items new i.filled (front g c) i.size i.given i.from c.in_ok-n.n
-          w.ascii_len.result
-          (subst (λ k. IsLaidOut i.size i.bytes.items i.given i.from k i.filled) all
-          c.self.invariant) same c.in_ok-n.ensures.outcome.0
+          w.ascii_len.result (grind arith) same c.in_ok-n.ensures.outcome.0
           (rw (w.deref.ensures.value, put_back g c) at w.ascii_len.ensures))
       | else-self w ↦
           rw (w.self-inside-is, put_back g c)
           (refilled_other i.bytes.items new i.filled (front g c) i.size i.given i.from i.checked
-          c.in_ok-n.n c.self.invariant (omega
-          (arith, c.self.invariant.then_checked, w.if-self.false)) same c.in_ok-n.ensures.outcome.0)
+          c.in_ok-n.n c.self.invariant (grind arith) same c.in_ok-n.ensures.outcome.0)
     ]
 
 pub returns : goal.returns
@@ -52,10 +45,7 @@ returns g c =
     let read = slice_range new i.filled (i.filled + n) in
     let laid = c.self.invariant in
     let held : slice_range new i.from (i.filled + n) ≡ c.args.self.now.held ++ read =
-    held_more i.bytes.items new i.filled (front g c) i.from n
-    (omega (arith, laid.then_from, laid.then_checked))
-    ∙ ap (λ xs. xs ++ read)
-    (ap (λ (w : WindowState). w.held) c.self.view_is ∙ c.move_to_front.ensures.held) in
+    grind (arith, held_more, front) in
     record {
       outcome = (
         read,
@@ -64,11 +54,7 @@ returns g c =
           | then-self w ↦ rw (w.self-inside-is, put_back g c) held
           | else-self w ↦ rw (w.self-inside-is, put_back g c) held
         ],
-        ap (λ k. k == 0) (omega (
-          arith,
-          length-slice_range new i.filled (i.filled + n) (omega arith)
-              c.in_ok-n.ensures.outcome.0,
-        )),
+        grind (arith, length-slice_range),
       );
       size = search rules;
       room = search rules;
