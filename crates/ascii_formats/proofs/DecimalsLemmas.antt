@@ -1,10 +1,10 @@
 -- The parts of a decimal number, and the faults in them.
 use Rattle.std.proofs.Common.{◌≡◌, ◌≢◌, ◌⊎◌, ℕ, zero, suc, ◌+◌, ◌-◌, ◌*◌, ◌/◌, ◌%◌, ◌^◌, ◌<◌, ◌≤◌}
 use Rattle.std.proofs.Common.{List, [], ◌∷◌, ◌++◌, All, Bool, Contains, None, Option, Some, drop}
-use Rattle.std.proofs.Common.{false, get_or, inl, inr, length, replicate, take, true}
-use Rattle.std.proofs.Common.{ap, ap₂, append_assoc, append-nil, arith, length-append, length-drop}
-use Rattle.std.proofs.Common.{lit≤, pow-suc, refl, subst, sym, ⊎_elim, ◌∙◌, eq-eqb, ne_eqb}
-use Rattle.std.proofs.Common.{drop-cons, get_or-append-add, get_or-drop, take-append-drop}
+use Rattle.std.proofs.Common.{false, get_or, length, replicate, take, true, ap, ap₂, append_assoc}
+use Rattle.std.proofs.Common.{append-nil, arith, length-append, length-drop, lit≤, pow-suc, refl}
+use Rattle.std.proofs.Common.{subst, sym, ⊎_elim, ◌∙◌, eq-eqb, ne_eqb, drop-cons, get_or-append-add}
+use Rattle.std.proofs.Common.{get_or-drop, take-append-drop}
 use Rattle.std.proofs.Math.ListN.{get_or-append}
 use Rattle.std.proofs.Math.Seq.{drop-append-add, drop-append_seam, take-append-add}
 use Rattle.std.proofs.Math.Seq.{take-append_seam, take-suc}
@@ -40,17 +40,13 @@ value_append number (digit ∷ digits) more =
 -- one more code
 take_more : (codes : List ℕ) (i : ℕ) → i < length codes
     → take (i + 1) codes ≡ take i codes ++ (get_or codes i 0 ∷ [])
-take_more codes i inside =
-    let next : i + 1 ≡ suc i = omega arith in
-    ap (λ n. take n codes) next ∙ take-suc codes i 0 inside
+take_more codes i inside = grind (arith, take-suc)
 
 -- the number with one more digit
 pub value_more : (number : ℕ) (codes : List ℕ) (i : ℕ) → i < length codes
     → digits_value_after 10 number (take (i + 1) codes)
     ≡ digits_value_after 10 number (take i codes) * 10 + digit_value (get_or codes i 0)
-value_more number codes i inside =
-    ap (digits_value_after 10 number) (take_more codes i inside)
-    ∙ value_append number (take i codes) (get_or codes i 0 ∷ [])
+value_more number codes i inside = grind (arith, take_more, value_append)
 
 -- digits after digits are digits
 digits_append : (some more : List ℕ) → AllDigits 10 some → AllDigits 10 more
@@ -71,37 +67,26 @@ zeros_are_digits (code ∷ codes) zeros = (
 -- a text is its sign and what comes after it
 pub signed : (text : List ℕ)
     → sign_text (starts_with_minus text) ++ drop (from_bool (starts_with_minus text)) text ≡ text
-signed [] = refl
-signed (code ∷ codes) = elim (cases_eq code 45) [
-  | inl is ↦ rw (eq-eqb code 45 is) (ap (λ c. c ∷ codes) (sym is))
-  | inr is ↦ rw (ne_eqb code 45 is) refl
-]
+signed text = grind (arith, cases_eq, eq-eqb, ne_eqb)
 
 -- how long a sign is
 sign_length : (minus : Bool) → length (sign_text minus) ≡ from_bool minus
-sign_length true = refl
-sign_length false = refl
+sign_length minus = grind arith
 
 -- the codes up to one of `digits`
 take_inside : (before digits after : List ℕ) (i : ℕ) → i ≤ length digits
     → take (length before + i) (before ++ (digits ++ after)) ≡ before ++ take i digits
-take_inside before digits after i order =
-    take-append-add before (digits ++ after) i
-    ∙ ap (λ l. before ++ l) (take-append-le i digits after order)
+take_inside before digits after i order = grind (arith, take-append-add, take-append-le)
 
 -- a code of `digits`
 code_inside : (before digits after : List ℕ) (i : ℕ) → i < length digits
     → get_or (before ++ (digits ++ after)) (length before + i) 0 ≡ get_or digits i 0
-code_inside before digits after i inside =
-    get_or-append-add before (digits ++ after) i 0 ∙ get_or-append digits after 0 i inside
+code_inside before digits after i inside = grind (arith, get_or-append-add, get_or-append)
 
 -- a code of `digits` at the position `p` of the text
 code_is : (text before digits after : List ℕ) (i p : ℕ) → before ++ (digits ++ after) ≡ text
     → p ≡ length before + i → i < length digits → get_or text p 0 ≡ get_or digits i 0
-code_is text before digits after i p joined at inside =
-    ap (λ n. get_or text n 0) at
-    ∙ ap (λ l. get_or l (length before + i) 0) (sym joined)
-    ∙ code_inside before digits after i inside
+code_is text before digits after i p joined at inside = grind (arith, code_inside)
 
 -- what comes before it
 comes_before : (text before digits after whole : List ℕ) (fraction : Option (List ℕ)) (i p : ℕ)
@@ -110,32 +95,14 @@ comes_before : (text before digits after whole : List ℕ) (fraction : Option (L
     → digits_value 10 (whole ++ point_digits fraction) < 2 ^ 64
     → ComesBefore whole fraction text p
 comes_before text before digits after whole fraction i p joined at inside start fits =
-    let front : take p text ≡ before ++ take i digits =
-    ap (λ n. take n text) at ∙ ap (λ l. take (length before + i) l) (sym joined)
-    ∙ take_inside before digits after i (omega (arith, inside)) in
-    record {
-      inside = omega (
-        arith,
-        at,
-        inside,
-        ap length joined,
-        length-append before (digits ++ after),
-        length-append digits after,
-      );
-      start = subst (StartsDecimal (starts_with_minus text) whole fraction) (sym front) start;
-      fits = fits;
-    }
+    grind (arith, take_inside, length-append)
 
 -- ---- faults
 
 -- the parts up to a position before a point
 whole_start : (minus : Bool) (whole : List ℕ) → AllDigits 10 whole
     → StartsDecimal minus whole None (sign_text minus ++ whole)
-whole_start minus whole digits = record {
-  joined = ap (λ l. sign_text minus ++ l) (append-nil whole);
-  digits = subst (AllDigits 10) (sym (append-nil whole)) digits;
-  point = tt;
-}
+whole_start minus whole digits = grind (arith, append-nil)
 
 -- a code that is a point
 in_place : (codes : List ℕ) (i : ℕ) → get_or codes i 0 ≡ 46 → i < length codes
@@ -171,8 +138,7 @@ whole_fault text whole after (TooLarge p) joined free (i, at, before, is, large)
           (whole_start (starts_with_minus text) (take i whole) before.digits)
           (subst (λ l. digits_value 10 l < 2 ^ 64) (sym (append-nil (take i whole))) before.fits),
       omega (arith, is, ap digit_value code),
-      subst (λ c. 2 ^ 64 ≤ digits_value 10 (take i whole ++ c ∷ [])) (sym code)
-          (subst (λ l. 2 ^ 64 ≤ digits_value 10 l) (take_more whole i before.inside) large),
+      grind (arith, take_more),
       λ dropped. dropped.0 refl,
     )
 
@@ -185,39 +151,23 @@ point_fault text whole fraction joined digits fits none =
     let minus = starts_with_minus text in
     let sign = sign_text minus in
     let p = from_bool minus + length whole in
-    let front : (sign ++ whole) ++ ((46 ∷ []) ++ fraction) ≡ text =
-    append_assoc sign whole (46 ∷ fraction) ∙ joined in
-    let place : p ≡ length (sign ++ whole) + 0 =
-    omega (arith, sign_length minus, length-append sign whole) in
+    let front : (sign ++ whole) ++ ((46 ∷ []) ++ fraction) ≡ text = grind (arith, append_assoc) in
+    let place : p ≡ length (sign ++ whole) + 0 = grind (arith, sign_length, length-append) in
     let code = code_is text (sign ++ whole) (46 ∷ []) fraction 0 p front place (omega arith) in (
       whole,
       None,
       comes_before text (sign ++ whole) (46 ∷ []) fraction whole None 0 p front place (omega arith)
-          (subst (StartsDecimal minus whole None) (sym (append-nil (sign ++ whole)))
-          (whole_start minus whole digits))
+          (grind (arith, append-nil, whole_start))
           (subst (λ l. digits_value 10 l < 2 ^ 64) (sym (append-nil whole)) fits),
       omega (arith, ap digit_value code),
-      λ point. ⊎_elim point.2
-          (λ last. omega (
-            arith,
-            point.3,
-            place,
-            ap length last,
-            ap length front,
-            length-append (sign ++ whole) (46 ∷ fraction),
-          )) none,
+      grind (arith, length-append),
     )
 
 -- the parts up to a position after a point
 fraction_start : (minus : Bool) (whole digits : List ℕ) → whole ≢ []
     → AllDigits 10 whole → AllDigits 10 digits
     → StartsDecimal minus whole (Some digits) ((sign_text minus ++ (whole ++ 46 ∷ [])) ++ digits)
-fraction_start minus whole digits some first then = record {
-  joined = ap (λ l. sign_text minus ++ l) (sym (append_assoc whole (46 ∷ []) digits))
-      ∙ sym (append_assoc (sign_text minus) (whole ++ 46 ∷ []) digits);
-  digits = digits_append whole digits first then;
-  point = some;
-}
+fraction_start minus whole digits some first then = grind (arith, append_assoc, digits_append)
 
 -- the last of the digits that are kept is not a zero, so from none of them on there are only zeros
 not_dropped : (digits kept : List ℕ) (i : ℕ) → TrimsEnd IsZeroCode digits kept → i < length kept
@@ -225,33 +175,15 @@ not_dropped : (digits kept : List ℕ) (i : ℕ) → TrimsEnd IsZeroCode digits 
 not_dropped digits kept i trimmed inside zeros =
     let last = length kept - 1 in
     let is : get_or (drop i digits) (last - i) 0 ≡ 48 =
-    All-get_or IsZeroCode (drop i digits) (last - i) 0 (omega (
-      arith,
-      inside,
-      length-drop i digits,
-      ap length trimmed.joined,
-      length-append kept trimmed.cut,
-    )) zeros in
-    let at : i + (last - i) ≡ last = omega (arith, inside) in
-    let code : get_or (drop i digits) (last - i) 0 ≡ get_or kept last 0 =
-    get_or-drop i digits (last - i) 0 ∙ ap (λ n. get_or digits n 0) at
-    ∙ ap (λ l. get_or l last 0) (sym trimmed.joined)
-    ∙ get_or-append kept trimmed.cut 0 last (omega (arith, inside)) in
-    let found = slice_get-get_or kept last 0 (omega (arith, inside)) in
-    let bounded : IfSome (Some (get_or kept last 0)) (λ code. ¬ (IsZeroCode code)) =
-    subst (λ o. IfSome o (λ code. ¬ (IsZeroCode code))) found trimmed.bounded in
-    bounded (sym code ∙ is)
+    grind (arith, All-get_or, length-drop, length-append) in
+    grind (arith, get_or-drop, get_or-append, slice_get-get_or)
 
 -- the text up to its point, the digits after it that are kept, and the zeros
 after_point : (text whole fraction kept zeros : List ℕ)
     → sign_text (starts_with_minus text) ++ (whole ++ 46 ∷ fraction) ≡ text
     → kept ++ zeros ≡ fraction
     → (sign_text (starts_with_minus text) ++ (whole ++ 46 ∷ [])) ++ (kept ++ zeros) ≡ text
-after_point text whole fraction kept zeros joined parts =
-    let sign = sign_text (starts_with_minus text) in
-    ap (λ l. (sign ++ (whole ++ 46 ∷ [])) ++ l) parts
-    ∙ append_assoc sign (whole ++ 46 ∷ []) fraction
-    ∙ ap (λ l. sign ++ l) (append_assoc whole (46 ∷ []) fraction) ∙ joined
+after_point text whole fraction kept zeros joined parts = grind (arith, append_assoc)
 
 -- a fault in the digits after a point
 pub fraction_fault : (text whole fraction kept : List ℕ) (e : NumberError)
@@ -266,14 +198,7 @@ fraction_fault text whole fraction kept (NotDigit p) joined digits some trimmed
     let minus = starts_with_minus text in
     let front = sign_text minus ++ (whole ++ 46 ∷ []) in
     let same = after_point text whole fraction kept trimmed.cut joined trimmed.joined in
-    let place : p ≡ length front + i =
-    omega (
-      arith,
-      at,
-      sign_length minus,
-      length-append (sign_text minus) (whole ++ 46 ∷ []),
-      length-append whole (46 ∷ []),
-    ) in
+    let place : p ≡ length front + i = grind (arith, sign_length, length-append) in
     let code = code_is text front kept trimmed.cut i p same place before.inside in (
       whole,
       Some (take i kept),
@@ -288,27 +213,16 @@ fraction_fault text whole fraction kept (TooLarge p) joined digits some trimmed
     let minus = starts_with_minus text in
     let front = sign_text minus ++ (whole ++ 46 ∷ []) in
     let same = after_point text whole fraction kept trimmed.cut joined trimmed.joined in
-    let place : p ≡ length front + i =
-    omega (
-      arith,
-      at,
-      sign_length minus,
-      length-append (sign_text minus) (whole ++ 46 ∷ []),
-      length-append whole (46 ∷ []),
-    ) in
+    let place : p ≡ length front + i = grind (arith, sign_length, length-append) in
     let code = code_is text front kept trimmed.cut i p same place before.inside in
-    let rest : drop p text ≡ drop i fraction =
-    ap (λ n. drop n text) place ∙ ap (λ l. drop (length front + i) l) (sym same)
-    ∙ drop-append-add front (kept ++ trimmed.cut) i ∙ ap (drop i) trimmed.joined in (
+    let rest : drop p text ≡ drop i fraction = grind (arith, drop-append-add) in (
       whole,
       Some (take i kept),
       comes_before text front kept trimmed.cut whole (Some (take i kept)) i p same place
           before.inside (fraction_start minus whole (take i kept) some digits before.digits)
           (omega (arith, before.fits, value_append 0 whole (take i kept))),
       omega (arith, is, ap digit_value code),
-      subst (λ c. 2 ^ 64 ≤ digits_value 10 (whole ++ (take i kept ++ c ∷ []))) (sym code)
-          (subst (λ l. 2 ^ 64 ≤ digits_value 10 (whole ++ l)) (take_more kept i before.inside)
-          (omega (arith, large, value_append 0 whole (take (i + 1) kept)))),
+      grind (arith, take_more, value_append),
       λ dropped. not_dropped fraction kept i trimmed before.inside
           (subst (All IsZeroCode) rest dropped.1),
     )
@@ -316,8 +230,7 @@ fraction_fault text whole fraction kept (TooLarge p) joined digits some trimmed
 -- an error that is passed on
 pub fails_with : {T E : Type 0} (result : Result T E) (fault : E) (P : T → Type 0) (Q : E → Type 0)
     → IsErrAnd result (λ e. e ≡ fault) → Q fault → MatchResult result P Q
-fails_with (Ok _) fault P Q is holds = absurd is
-fails_with (Err e) fault P Q is holds = subst Q (sym is) holds
+fails_with result fault P Q is holds = grind arith
 
 -- ---- numbers
 
@@ -359,12 +272,7 @@ writes_fraction text whole fraction kept n joined digits some after trimmed more
       whole = whole;
       fraction = Some fraction;
       kept = kept;
-      parts = record {
-        joined = joined;
-        digits = digits_append whole fraction digits (subst (AllDigits 10) trimmed.joined
-            (digits_append kept trimmed.cut more (zeros_are_digits trimmed.cut trimmed.within)));
-        point = some;
-      };
+      parts = grind (arith, digits_append, zeros_are_digits);
       some = some;
       after = after;
       trimmed = trimmed;
@@ -380,33 +288,23 @@ sign_is : (minus : Bool) (whole : List ℕ) (fraction : Option (List ℕ)) (text
     → StartsDecimal minus whole fraction text → whole ≢ [] → starts_with_minus text ≡ minus
 sign_is true whole fraction text parts some = ap starts_with_minus (sym parts.joined)
 sign_is false [] fraction text parts some = absurd (some refl)
-sign_is false (digit ∷ digits) fraction text parts some =
-    ap starts_with_minus (sym parts.joined)
-    ∙ ne_eqb digit 45 (λ minus. omega (arith, parts.digits.0, ap digit_value minus))
+sign_is false (digit ∷ digits) fraction text parts some = grind (arith, ne_eqb)
 
 -- digits before a point or the end are all digits up to there
 same_parts : (whole other : List ℕ) (fraction last : Option (List ℕ)) → AllDigits 10 whole
     → AllDigits 10 other → whole ++ point_text fraction ≡ other ++ point_text last
     → (whole ≡ other) × (point_text fraction ≡ point_text last)
 same_parts [] [] fraction last digits others joined = (refl, joined)
-same_parts [] (digit ∷ more) None last digits others joined =
-    absurd (omega (arith, ap length joined))
-same_parts [] (digit ∷ more) (Some f) last digits others joined =
-    let point = ap (λ l. get_or l 0 0) joined in
-    absurd (omega (arith, others.0, ap digit_value point))
-same_parts (digit ∷ more) [] fraction None digits others joined =
-    absurd (omega (arith, ap length joined))
-same_parts (digit ∷ more) [] fraction (Some f) digits others joined =
-    let point = ap (λ l. get_or l 0 0) joined in
-    absurd (omega (arith, digits.0, ap digit_value point))
+same_parts [] (digit ∷ more) None last digits others joined = grind arith
+same_parts [] (digit ∷ more) (Some f) last digits others joined = grind arith
+same_parts (digit ∷ more) [] fraction None digits others joined = grind arith
+same_parts (digit ∷ more) [] fraction (Some f) digits others joined = grind arith
 same_parts (digit ∷ more) (other ∷ others) fraction last first then joined =
-    let rest = same_parts more others fraction last first.1 then.1 (ap (drop 1) joined) in
-    (ap₂ (λ c l. c ∷ l) (ap (λ l. get_or l 0 0) joined) rest.0, rest.1)
+    grind (arith, ap₂, same_parts more others fraction last first.1 then.1 (ap (drop 1) joined))
 
 -- the digits after a point are those after the first code
 digits_after : (fraction : Option (List ℕ)) → drop 1 (point_text fraction) ≡ point_digits fraction
-digits_after None = refl
-digits_after (Some digits) = refl
+digits_after fraction = grind arith
 
 -- the first digits of a text of parts
 first_digits : (whole more : List ℕ) → AllDigits 10 (whole ++ more) → AllDigits 10 whole
@@ -418,8 +316,7 @@ not_shorter : (digits kept other : List ℕ) → TrimsEnd IsZeroCode digits kept
     → TrimsEnd IsZeroCode digits other → length other ≤ length kept
 not_shorter digits kept other trimmed trims = ⊎_elim
     (λ shorter. absurd (not_dropped digits other (length kept) trims shorter
-    (subst (All IsZeroCode) (sym (ap (drop (length kept)) (sym trimmed.joined)
-    ∙ drop-append_seam kept trimmed.cut)) trimmed.within)))
+    (subst (All IsZeroCode) (grind (arith, drop-append_seam)) trimmed.within)))
     (λ order. order) (cases_lt (length kept) (length other))
 
 -- there is one text without the zeros at the end
@@ -438,10 +335,7 @@ one_trimmed digits kept other trimmed trims =
 -- numbers with the same parts are the same
 same_decimal : (d e : Decimal) → d.negative ≡ e.negative → d.digits ≡ e.digits
     → d.places ≡ e.places → d ≡ e
-same_decimal d e minus digits places =
-    ap (λ m. record { negative = m; digits = d.digits; places = d.places }) minus
-    ∙ ap (λ n. record { negative = e.negative; digits = n; places = d.places }) digits
-    ∙ ap (λ n. record { negative = e.negative; digits = e.digits; places = n }) places
+same_decimal d e minus digits places = grind arith
 
 -- a text writes one decimal number at most
 pub one_decimal : (text : List ℕ) (d e : Decimal) → WritesDecimal text d → WritesDecimal text e
@@ -451,8 +345,7 @@ one_decimal text d e one other =
     sym (sign_is d.negative one.whole one.fraction text one.parts one.some)
     ∙ sign_is e.negative other.whole other.fraction text other.parts other.some in
     let joined = append_cancel_left (sign_text d.negative) (one.whole ++ point_text one.fraction)
-    (other.whole ++ point_text other.fraction) (one.parts.joined ∙ sym other.parts.joined
-    ∙ ap (λ m. sign_text m ++ (other.whole ++ point_text other.fraction)) (sym minus)) in
+    (other.whole ++ point_text other.fraction) (grind arith) in
     let parts = same_parts one.whole other.whole one.fraction other.fraction
     (first_digits one.whole (point_digits one.fraction) one.parts.digits)
     (first_digits other.whole (point_digits other.fraction) other.parts.digits) joined in
@@ -460,10 +353,7 @@ one_decimal text d e one other =
     ∙ digits_after other.fraction in
     let kept = one_trimmed (point_digits one.fraction) one.kept other.kept one.trimmed
     (subst (λ l. TrimsEnd IsZeroCode l other.kept) (sym after) other.trimmed) in
-    let digits : d.digits ≡ e.digits =
-    one.digits ∙ ap₂ (λ w k. digits_value 10 (w ++ k)) parts.0 kept ∙ sym other.digits in
-    let places : d.places ≡ e.places = one.places ∙ ap length kept ∙ sym other.places in
-    same_decimal d e minus digits places
+    grind (arith, ap₂, same_decimal)
 
 -- ---- a text that writes a number is not at fault
 
@@ -477,12 +367,9 @@ digits_of_whole : (whole digits more : List ℕ) (fraction : Option (List ℕ)) 
     → whole ++ point_text fraction ≡ digits ++ more → (rest : List ℕ) × (whole ≡ digits ++ rest)
 digits_of_whole whole [] more fraction all joined = (whole, refl)
 digits_of_whole [] (digit ∷ digits) more None all joined = absurd (omega (arith, ap length joined))
-digits_of_whole [] (digit ∷ digits) more (Some f) all joined =
-    let point = ap (λ l. get_or l 0 0) joined in
-    absurd (omega (arith, all.0, ap digit_value point))
+digits_of_whole [] (digit ∷ digits) more (Some f) all joined = grind arith
 digits_of_whole (code ∷ codes) (digit ∷ digits) more fraction all joined =
-    let rest = digits_of_whole codes digits more fraction all.1 (ap (drop 1) joined) in
-    (rest.0, ap₂ (λ c l. c ∷ l) (ap (λ l. get_or l 0 0) joined) rest.1)
+    grind (arith, ap₂, digits_of_whole codes digits more fraction all.1 (ap (drop 1) joined))
 
 -- digits up to another code are all digits before the point or the end
 stops_at : (whole digits more : List ℕ) (fraction : Option (List ℕ)) (code : ℕ)
@@ -490,14 +377,9 @@ stops_at : (whole digits more : List ℕ) (fraction : Option (List ℕ)) (code :
     → whole ++ point_text fraction ≡ digits ++ code ∷ more
     → (whole ≡ digits) × (point_text fraction ≡ code ∷ more)
 stops_at [] [] more fraction code first then other joined = (refl, joined)
-stops_at [] (digit ∷ digits) more None code first then other joined =
-    absurd (omega (arith, ap length joined))
-stops_at [] (digit ∷ digits) more (Some f) code first then other joined =
-    let point = ap (λ l. get_or l 0 0) joined in
-    absurd (omega (arith, then.0, ap digit_value point))
-stops_at (digit ∷ digits) [] more fraction code first then other joined =
-    let same = ap (λ l. get_or l 0 0) joined in
-    absurd (omega (arith, first.0, other, ap digit_value same))
+stops_at [] (digit ∷ digits) more None code first then other joined = grind arith
+stops_at [] (digit ∷ digits) more (Some f) code first then other joined = grind arith
+stops_at (digit ∷ digits) [] more fraction code first then other joined = grind arith
 stops_at (digit ∷ digits) (next ∷ others) more fraction code first then other joined =
     let rest =
     stops_at digits others more fraction code first.1 then.1 other (ap (drop 1) joined) in
@@ -524,11 +406,7 @@ last_digits (digit ∷ others) more digits = last_digits others more digits.1
 some_after : (fraction : Option (List ℕ)) (code : ℕ) (more : List ℕ)
     → point_text fraction ≡ code ∷ more → IfSome fraction (λ digits. digits ≢ [])
     → (code ≡ 46) × (0 < length more)
-some_after None code more joined some = absurd (omega (arith, ap length joined))
-some_after (Some digits) code more joined some = (
-  sym (ap (λ l. get_or l 0 0) joined),
-  omega (arith, has_length digits some, ap length joined),
-)
+some_after fraction code more joined some = grind (arith, has_length)
 
 -- what comes after the codes that are kept is among the zeros
 zeros_past : (kept zeros front rest : List ℕ) → kept ++ zeros ≡ front ++ rest
@@ -551,17 +429,13 @@ parts_at text whole fraction p d before one =
     let sign = sign_text (starts_with_minus text) in
     let code = get_or text p 0 in
     let next : suc p ≡ p + 1 = omega arith in
-    let rest : drop p text ≡ code ∷ drop (p + 1) text =
-    drop-cons text p 0 before.inside ∙ ap (λ n. code ∷ drop n text) next in
+    let rest : drop p text ≡ code ∷ drop (p + 1) text = grind (arith, drop-cons) in
     let minus = sign_is d.negative one.whole one.fraction text one.parts one.some in
     let whole_text : sign ++ (whole ++ (point_text fraction ++ code ∷ drop (p + 1) text)) ≡ text =
     ap (λ l. sign ++ l) (sym (append_assoc whole (point_text fraction) (code ∷ drop (p + 1) text)))
     ∙ sym (append_assoc sign (whole ++ point_text fraction) (code ∷ drop (p + 1) text))
     ∙ ap₂ (λ a b. a ++ b) before.start.joined (sym rest) ∙ take-append-drop p text in
-    append_cancel_left sign (one.whole ++ point_text one.fraction)
-    (whole ++ (point_text fraction ++ code ∷ drop (p + 1) text))
-    (ap (λ m. sign_text m ++ (one.whole ++ point_text one.fraction)) minus
-    ∙ one.parts.joined ∙ sym whole_text)
+    grind (arith, append_cancel_left)
 
 -- a text that writes a decimal number is not at fault
 pub no_decimal_fault : (text : List ℕ) (d : Decimal) (e : NumberError) → WritesDecimal text d
@@ -569,58 +443,26 @@ pub no_decimal_fault : (text : List ℕ) (d : Decimal) (e : NumberError) → Wri
 no_decimal_fault text d Empty one fault =
     let minus = sign_is d.negative one.whole one.fraction text one.parts one.some in
     let lengths = ap length (one.parts.joined ∙ sym (signed text)) in
-    omega (
-      arith,
-      lengths,
-      ap length fault,
-      ap (λ m. length (sign_text m)) minus,
-      has_length one.whole one.some,
-      length-append (sign_text d.negative) (one.whole ++ point_text one.fraction),
-      length-append one.whole (point_text one.fraction),
-      length-append (sign_text (starts_with_minus text))
-          (drop (from_bool (starts_with_minus text)) text),
-    )
+    grind (arith, has_length, length-append)
 no_decimal_fault text d (NotDigit p) one (whole, None, before, is, point) =
     let code = slice_index text p in
     let stop = stops_at one.whole whole (drop (p + 1) text) one.fraction code
     (first_digits one.whole (point_digits one.fraction) one.parts.digits)
     (first_digits whole [] before.start.digits) is (parts_at text whole None p d before one) in
     let fraction = some_after one.fraction code (drop (p + 1) text) stop.1 one.after in
-    point (
-      fraction.0,
-      refl,
-      λ none. one.some (stop.0 ∙ none),
-      omega (
-        arith,
-        fraction.1,
-        length-drop (p + 1) text,
-      ),
-    )
+    grind (arith, length-drop)
 no_decimal_fault text d (NotDigit p) one (whole, Some f, before, is, point) =
     let code = slice_index text p in
     let same = same_parts one.whole whole one.fraction (Some (f ++ code ∷ drop (p + 1) text))
     (first_digits one.whole (point_digits one.fraction) one.parts.digits)
     (first_digits whole f before.start.digits) (parts_at text whole (Some f) p d before one) in
-    let digits = subst (AllDigits 10) (sym (digits_after one.fraction) ∙ ap (drop 1) same.1)
-    (last_digits one.whole (point_digits one.fraction) one.parts.digits) in
-    omega (arith, is, digit_among f (drop (p + 1) text) code digits)
+    grind (arith, digits_after, last_digits, digit_among)
 no_decimal_fault text d (TooLarge p) one (whole, None, before, is, large, counts) =
     let code = slice_index text p in
     let more = drop (p + 1) text in
     let joined = parts_at text whole None p d before one
     ∙ sym (append_assoc whole (code ∷ []) more) in
-    let digits = digits_append whole (code ∷ []) (first_digits whole [] before.start.digits)
-    (is, tt) in
-    let start = digits_of_whole one.whole (whole ++ code ∷ []) more one.fraction digits joined in
-    omega (
-      arith,
-      large,
-      value_of_start (whole ++ code ∷ []) start.0,
-      ap (digits_value 10) start.1,
-      value_of_start one.whole one.kept,
-      one.digits,
-      one.fits,
-    )
+    grind (arith, digits_append, first_digits, digits_of_whole, value_of_start)
 no_decimal_fault text d (TooLarge p) one (whole, Some f, before, is, large, counts) =
     let code = slice_index text p in
     let more = drop (p + 1) text in
@@ -630,32 +472,16 @@ no_decimal_fault text d (TooLarge p) one (whole, Some f, before, is, large, coun
     let fraction = sym (digits_after one.fraction) ∙ ap (drop 1) same.1 in
     let trimmed = subst (λ l. TrimsEnd IsZeroCode l one.kept) fraction one.trimmed in
     let next : suc p ≡ p + 1 = omega arith in
-    let rest : drop p text ≡ code ∷ more =
-    drop-cons text p 0 before.inside ∙ ap (λ n. code ∷ drop n text) next in
-    ⊎_elim
-    (λ inside.
+    let rest : drop p text ≡ code ∷ more = grind (arith, drop-cons) in
+    ⊎_elim (λ inside.
     let kept : f ++ code ∷ [] ≡ take (length f + 1) one.kept =
-    sym (take-append-add f (code ∷ more) 1)
-    ∙ ap (take (length f + 1)) (sym trimmed.joined)
+    sym (take-append-add f (code ∷ more) 1) ∙ ap (take (length f + 1)) (sym trimmed.joined)
     ∙ take-append-le (length f + 1) one.kept trimmed.cut (omega (arith, inside)) in
     let parts : one.whole ++ one.kept
     ≡ (whole ++ (f ++ code ∷ [])) ++ drop (length f + 1) one.kept =
-    ap₂ (λ w k. w ++ k) same.0 (sym (take-append-drop (length f + 1) one.kept)
-    ∙ ap (λ l. l ++ drop (length f + 1) one.kept) (sym kept))
-    ∙ sym (append_assoc whole (f ++ code ∷ []) (drop (length f + 1) one.kept)) in
-    omega (
-      arith,
-      large,
-      value_of_start (whole ++ (f ++ code ∷ [])) (drop (length f + 1) one.kept),
-      ap (digits_value 10) parts,
-      one.digits,
-      one.fits,
-    ))
-    (λ past. counts (
-      λ none. none-some f (sym none),
-      subst (All IsZeroCode) (sym rest) (zeros_past one.kept trimmed.cut f (code ∷ more)
-          trimmed.joined past trimmed.within),
-    )) (cases_lt (length f) (length one.kept))
+    grind (arith, ap₂, take-append-drop, append_assoc) in
+    grind (arith, value_of_start))
+    (grind (arith, none-some, All, zeros_past)) (cases_lt (length f) (length one.kept))
 
 -- a text that writes a decimal number is read as that number
 pub reads_decimal_number : (text : List ℕ) (d : Decimal) (result : Result Decimal NumberError)
@@ -690,6 +516,4 @@ pub output_is : (d : Decimal) (sign : List ℕ) (whole fraction : ℕ) (spec : F
     → fraction ≡ d.digits % 10 ^ d.places
     → spec ≡ format_spec 32 0 4 d.places (2 ^ 64 - 1) → d.places ≢ 0
     → sign ++ (decimal whole ++ 46 ∷ styled_decimal spec fraction) ≡ decimal_text d
-output_is d sign whole fraction spec minus front back options some =
-    let shown = ap (λ s. styled_decimal s fraction) options ∙ filled d.places fraction some in
-    rw (ne_eqb d.places 0 some, minus, front, shown, back) refl
+output_is d sign whole fraction spec minus front back options some = grind (arith, filled, ne_eqb)

@@ -30,12 +30,7 @@ price = record {
   parts = record { joined = refl; digits = search rules; point = search rules };
   some = search rules;
   after = search rules;
-  trimmed = record {
-    cut = codes "0";
-    joined = refl;
-    within = search rules;
-    bounded = search rules;
-  };
+  trimmed = grind arith;
   digits = refl;
   fits = search rules;
   places = refl;
@@ -45,11 +40,7 @@ last_point : IsDecimalFault (codes "5.") (NotDigit 1)
 last_point = (
   codes "5",
   None,
-  record {
-    inside = search rules;
-    start = record { joined = refl; digits = search rules; point = tt };
-    fits = search rules;
-  },
+  grind arith,
   search rules,
   λ point. omega (arith, point.3),
 )

@@ -1,10 +1,9 @@
 -- Appending a text in parts.
 use Rattle.std.proofs.Common.{◌≡◌, ℕ, zero, suc, ◌+◌, ◌-◌, ◌<◌, ◌≤◌, List, [], ◌∷◌, ◌++◌, length}
-use Rattle.std.proofs.Common.{drop, false, replicate, set}
-use Rattle.std.proofs.Common.{Ok, Err, Result, length-append, arith, ap, refl, subst, sym, ◌∙◌}
-use Rattle.std.proofs.lemmas.List.{append_assoc, append-nil, drop_all}
-use Rattle.std.proofs.lemmas.List.{replicate-append-replicate}
-use Rattle.std.proofs.Common.{◌/◌, ◌%◌, ◌^◌, ◌≢◌, ◌⊎◌, ⊎_elim, inl, inr, eq-eqb, ne_eqb}
+use Rattle.std.proofs.Common.{drop, false, replicate, set, Ok, Err, Result, length-append, arith}
+use Rattle.std.proofs.Common.{ap, refl, subst, sym, ◌∙◌, ◌/◌, ◌%◌, ◌^◌, ◌≢◌, ◌⊎◌, ⊎_elim, eq-eqb}
+use Rattle.std.proofs.Common.{ne_eqb}
+use Rattle.std.proofs.lemmas.List.{append_assoc, append-nil, drop_all, replicate-append-replicate}
 use Rattle.std.proofs.Math.Nat.{pow-suc}
 use Rattle.std.proofs.lemmas.Bool.Decides.{nat_tests}
 use Rattle.std.specs.Fmt.{digit_glyph, digits, digits_onto}
@@ -22,84 +21,24 @@ both_empty (code ∷ codes) b none = absurd (omega (arith, ap length none))
 pub part_at_once : {E : Type 0} {sure : ℕ} (codes : List ℕ) (old new : StringState)
     (result : Result (Unit {0}) E)
     → GrowsTo sure (old.text ++ codes) old new result → AppendsInParts sure codes old new result
-part_at_once codes old new (Ok u) grows = record {
-  ok = grows.ok;
-  err = tt;
-  full = tt;
-  beyond = tt;
-  nothing = λ none. refl;
-  capacity = grows.capacity;
-}
-part_at_once codes old new (Err e) grows = record {
-  ok = tt;
-  err = ([], grows.err ∙ sym (append-nil old.text));
-  full = omega (arith, grows.full, length-append old.text codes);
-  beyond = omega (arith, grows.beyond, length-append old.text codes);
-  nothing = λ none. grows.nothing (ap (λ part. old.text ++ part) none ∙ append-nil old.text);
-  capacity = grows.capacity;
-}
+part_at_once codes old new result grows = grind (arith, append-nil, length-append)
 
 -- a part, and then another
 pub two_parts : {E F : Type 0} {sure : ℕ} (a b : List ℕ) (old mid new : StringState) (u : Unit {0})
     (result : Result (Unit {0}) E)
     → AppendsInParts {E = F} sure a old mid (Ok u) → AppendsInParts sure b mid new result
     → AppendsInParts sure (a ++ b) old new result
-two_parts a b old mid new u (Ok v) first second = record {
-  ok = second.ok ∙ ap (λ text. text ++ b) first.ok ∙ append_assoc old.text a b;
-  err = tt;
-  full = tt;
-  beyond = tt;
-  nothing = λ none. refl;
-  capacity = omega (arith, first.capacity, second.capacity);
-}
-two_parts a b old mid new u (Err e) first second = record {
-  ok = tt;
-  err = (
-    a ++ second.err.0,
-    second.err.1 ∙ ap (λ text. text ++ second.err.0) first.ok
-        ∙ append_assoc old.text a second.err.0,
-  );
-  full = omega (
-    arith,
-    first.capacity,
-    second.full,
-    ap length first.ok,
-    length-append old.text a,
-    length-append a b,
-  );
-  beyond = omega (
-    arith,
-    second.beyond,
-    ap length first.ok,
-    length-append old.text a,
-    length-append a b,
-  );
-  nothing = λ none. second.nothing (both_empty a b none).1;
-  capacity = omega (arith, first.capacity, second.capacity);
-}
+two_parts a b old mid new u result first second =
+    grind (arith, append_assoc, length-append, both_empty)
 
 -- a part that did not fit, before another
 pub first_part : {E F : Type 0} {sure : ℕ} (a b : List ℕ) (old new : StringState) (e : F) (f : E)
     → AppendsInParts sure a old new (Err e) → AppendsInParts sure (a ++ b) old new (Err f)
-first_part a b old new e f first = record {
-  ok = tt;
-  err = first.err;
-  full = omega (arith, first.full, length-append a b);
-  beyond = omega (arith, first.beyond, length-append a b);
-  nothing = λ none. first.nothing (both_empty a b none).0;
-  capacity = first.capacity;
-}
+first_part a b old new e f first = grind (arith, length-append, both_empty)
 
 -- no part
 pub no_part : {E : Type 0} {sure : ℕ} (old : StringState) → AppendsInParts {E = E} sure [] old old (Ok tt)
-no_part old = record {
-  ok = sym (append-nil old.text);
-  err = tt;
-  full = tt;
-  beyond = tt;
-  nothing = λ none. refl;
-  capacity = omega arith;
-}
+no_part old = grind (arith, append-nil)
 
 -- a code once more, if it fits
 pub one_more : {E : Type 0} {sure : ℕ} (n code : ℕ) (old mid new : StringState) (result : Result (Unit {0}) E)
@@ -143,8 +82,7 @@ after_digit : (room : List ℕ) (written code : ℕ) → length room ≡ 16 → 
     → drop (15 - written) (set room (15 - written) code) ≡ code ∷ drop (16 - written) room
 after_digit room written code size inside =
     let next : suc (15 - written) ≡ 16 - written = omega (arith, inside) in
-    from_written room (15 - written) code (omega (arith, size))
-    ∙ ap (λ at. code ∷ drop at room) next
+    grind (arith, from_written)
 
 -- the digits of a number, when the last of its quotients is written
 pub digits_written : (room : List ℕ) (written rest n : ℕ) → length room ≡ 16 → written < 16
@@ -152,11 +90,7 @@ pub digits_written : (room : List ℕ) (written rest n : ℕ) → length room �
     → rest / 16 ≡ 0
     → drop (15 - written) (set room (15 - written) (digit_glyph false (rest % 16)))
     ≡ digits 16 false n
-digits_written room written rest n size inside so_far none =
-    let turns : 64 - written ≡ suc (63 - written) = omega (arith, inside) in
-    after_digit room written (digit_glyph false (rest % 16)) size inside
-    ∙ sym (last_digit (63 - written) rest (drop (16 - written) room) none)
-    ∙ ap (λ k. digits_onto k 16 false rest (drop (16 - written) room)) (sym turns) ∙ so_far
+digits_written room written rest n size inside so_far none = grind (arith, after_digit, last_digit)
 
 -- none is written
 pub no_digits : (room : List ℕ) (n : ℕ) → length room ≡ 16
@@ -177,14 +111,7 @@ digit_written room written rest n size inside so_far more =
     let left : 64 - (written + 1) ≡ 63 - written = omega (arith, inside) in
     let at : 16 - (written + 1) ≡ 15 - written = omega (arith, inside) in
     let turns : 64 - written ≡ suc (63 - written) = omega (arith, inside) in
-    ap (λ k. digits_onto k 16 false (rest / 16) (drop (16 - (written + 1)) longer))
-    left
-    ∙ ap (λ k. digits_onto (63 - written) 16 false (rest / 16) (drop k longer))
-    at
-    ∙ ap (digits_onto (63 - written) 16 false (rest / 16))
-    (after_digit room written glyph size inside)
-    ∙ sym (more_digits (63 - written) rest (drop (16 - written) room) more)
-    ∙ ap (λ k. digits_onto k 16 false rest (drop (16 - written) room)) (sym turns) ∙ so_far
+    grind (arith, after_digit, more_digits)
 
 -- a quotient has one digit less
 pub fewer_digits : (rest written : ℕ) → written < 16 → rest < 16 ^ (16 - written)
@@ -195,8 +122,7 @@ fewer_digits rest written inside below =
 
 -- a number is 0, or more
 zero_or_more : (n : ℕ) → (n ≡ 0) ⊎ (0 < n)
-zero_or_more zero = inl refl
-zero_or_more (suc n) = inr (omega arith)
+zero_or_more n = grind arith
 
 -- the digits of a number are ASCII
 digits_ascii : (turns n : ℕ) (after : List ℕ) → IsAscii after

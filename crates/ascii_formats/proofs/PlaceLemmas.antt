@@ -1,7 +1,7 @@
 -- The place that bytes lead to, by the number of LF and the last one.
-use Rattle.std.proofs.Common.{◌++◌, ◌≡◌, ◌+◌, ◌-◌, ◌≤◌, ◌==◌, ℕ, suc, Bool, true, false, List, []}
-use Rattle.std.proofs.Common.{◌∷◌, length, take, drop, arith, ap, sym, refl, ◌∙◌}
-use Rattle.std.proofs.Common.{take-append-drop, length-drop, Some, None, if◌then◌else◌}
+use Rattle.std.proofs.Common.{◌++◌, ◌≡◌, ◌+◌, ◌-◌, ◌≤◌, ◌==◌, ℕ, suc, Bool, false, List, [], ◌∷◌}
+use Rattle.std.proofs.Common.{length, take, drop, arith, ap, sym, refl, ◌∙◌, take-append-drop}
+use Rattle.std.proofs.Common.{length-drop, Some, None, if◌then◌else◌}
 use Rattle.std.proofs.lemmas.List.Elements.{All-head, All-tail}
 use Rattle.memchr.specs.Find.{IsLastByte, is_byte}
 use Rattle.ascii.specs.Found.{HasNo}
@@ -17,14 +17,12 @@ place_after-append place (x ∷ xs) ys = place_after-append (place_after_byte pl
 
 line_of_byte : (p : Place) (x n : ℕ) (b : Bool) → (x == 10) ≡ b
     → (place_after_byte p x).line + n ≡ p.line + (if x == 10 then suc n else n)
-line_of_byte p x n true is = rw is (omega arith)
-line_of_byte p x n false is = rw is refl
+line_of_byte p x n b is = grind arith
 
 -- the line goes up by one for each LF
 line_after : (p : Place) (xs : List ℕ) → (place_after p xs).line ≡ p.line + feeds xs
 line_after p [] = omega arith
-line_after p (x ∷ xs) =
-    line_after (place_after_byte p x) xs ∙ line_of_byte p x (feeds xs) (x == 10) refl
+line_after p (x ∷ xs) = grind (arith, line_of_byte, line_after (place_after_byte p x) xs)
 
 -- the byte is not LF
 abbrev IsOther : ℕ → Type 0
@@ -49,22 +47,12 @@ pub after_last : (p : Place) (xs : List ℕ) (at : ℕ) → IsLastByte (is_byte 
     → place_after p xs ≡ record { line = p.line + feeds xs; column = length xs - at }
 after_last p xs at last =
     let cut = cut_at_last 10 xs at last in
-    let q = place_after p (take at xs) in
-    let tail = drop (at + 1) xs in
-    let on_last : place_after p xs ≡ record { line = q.line + 1; column = 1 + length tail } =
-    ap (place_after p) cut.0 ∙ (place_after-append p (take at xs) (10 ∷ tail)
-    ∙ after_no_feed (record { line = q.line + 1; column = 1 }) tail cut.1) in
-    let line : q.line + 1 ≡ p.line + feeds xs =
-    sym (ap (λ place. place.line) on_last) ∙ line_after p xs in
-    on_last ∙ (ap (λ l. record { line = l; column = 1 + length tail }) line
-    ∙ ap (λ c. record { line = p.line + feeds xs; column = c })
-    (omega (arith, last.0.high, length-drop (at + 1) xs)))
+    grind (arith, place_after-append, after_no_feed, line_after, length-drop)
 
 room_of_byte : (p : Place) (x : ℕ) (b : Bool) → (x == 10) ≡ b → 1 ≤ p.column
     → (1 ≤ (place_after_byte p x).column)
     × ((place_after_byte p x).line + (place_after_byte p x).column ≤ p.line + p.column + 1)
-room_of_byte p x true is some = rw is (omega arith, omega arith)
-room_of_byte p x false is some = rw is (omega arith, omega arith)
+room_of_byte p x b is some = grind arith
 
 -- line and column together go up by at most one for each byte
 pub room_after : (p : Place) (xs : List ℕ) → 1 ≤ p.column
@@ -73,19 +61,12 @@ pub room_after : (p : Place) (xs : List ℕ) → 1 ≤ p.column
 room_after p [] some = (some, omega arith)
 room_after p (x ∷ xs) some =
     let one = room_of_byte p x (x == 10) refl some in
-    let all = room_after (place_after_byte p x) xs one.0 in
-    (all.0, omega (arith, all.1, one.1))
+    grind (arith, room_after (place_after_byte p x) xs one.0)
 
 -- the LF of two parts
 pub feeds-append : (xs ys : List ℕ) → feeds (xs ++ ys) ≡ feeds xs + feeds ys
 feeds-append [] ys = omega arith
-feeds-append (x ∷ xs) ys = one_more x (x == 10) (feeds-append xs ys)
-  where
-    one_more : (x : ℕ) (b : Bool) → feeds (xs ++ ys) ≡ feeds xs + feeds ys
-        → (if b then suc (feeds (xs ++ ys)) else feeds (xs ++ ys))
-        ≡ (if b then suc (feeds xs) else feeds xs) + feeds ys
-    one_more x true same = omega (arith, same)
-    one_more x false same = same
+feeds-append (x ∷ xs) ys = grind (arith, feeds-append xs ys)
 
 pub feeds-cut : (n : ℕ) (xs : List ℕ) → feeds (take n xs) + feeds (drop n xs) ≡ feeds xs
 feeds-cut n xs = sym (feeds-append (take n xs) (drop n xs)) ∙ ap feeds (take-append-drop n xs)

@@ -1,14 +1,15 @@
 -- Where a quoted text is closed: past each code inside, and at the quote.
 use Rattle.std.proofs.Common.{◌≡◌, ◌≢◌, ℕ, zero, suc, ◌+◌, ◌≤◌, List, [], ◌∷◌, ◌++◌, length, drop}
-use Rattle.std.proofs.Common.{take, get_or, refl, sym, ap, ap₂, subst, ◌∙◌, arith, inl, inr}
-use Rattle.std.proofs.Common.{append_assoc, drop-cons, drop-drop, length-append}
+use Rattle.std.proofs.Common.{take, refl, sym, ap, ap₂, subst, ◌∙◌, arith, inl, inr, append_assoc}
+use Rattle.std.proofs.Common.{drop-cons, drop-drop, length-append}
 use Rattle.std.proofs.Math.Seq.{take-append_seam}
 use Rattle.std.proofs.lemmas.List.{drop_all}
 use Rattle.std.proofs.lemmas.Option.{get_or_from_slice_get, slice_get_within}
 use Rattle.std.proofs.lemmas.List.Elements.{All-cons, All-head, All-nil, All-tail}
 use Rattle.std.specs.List.{All, concat}
 use Rattle.std.specs.Prelude.{◌↔◌, Err, IfSome, IsOkAnd, MatchResult, Ok, Result, Some, slice_get}
-use Rattle.ascii_formats.specs.Quotes.{ClosesBefore, IsEscapeAt, IsQuoteFault, IsQuotedCode, StartsQuoted}
+use Rattle.ascii_formats.specs.Quotes.{ClosesBefore, IsEscapeAt, IsQuoteFault, IsQuotedCode}
+use Rattle.ascii_formats.specs.Quotes.{StartsQuoted}
 use Rattle.ascii_formats.specs.declared.quotes.QuoteError.{QuoteError}
 use Rattle.ascii_formats.specs.declared.quotes.QuoteError.TheVariants.{NoQuote, NotClosed}
 
@@ -23,8 +24,7 @@ not_closed q e rest (inside, starts) =
 
 -- a quote closes the text, unless it is an escape
 pub closed_here : (q e : ℕ) (rest : List ℕ) → EndsAt q e rest → ClosesBefore q e (q ∷ rest) rest
-closed_here q e rest ends =
-    ([], record { joined = refl; quotable = ([], All-nil (IsQuotedCode q e), refl); ends = ends })
+closed_here q e rest ends = grind (arith, All-nil)
 
 -- a piece goes before a text that closes
 one_more : (q e : ℕ) (piece text rest : List ℕ) → IsQuotedCode q e piece
@@ -33,8 +33,7 @@ one_more q e piece text rest is (inside, starts) =
     let pieces = starts.quotable.0 in (
       piece ++ inside,
       record {
-        joined = ap (λ l. q ∷ l) (append_assoc piece inside (q ∷ rest))
-            ∙ ap (λ l. q ∷ (piece ++ drop 1 l)) starts.joined;
+        joined = grind (arith, append_assoc);
         quotable = (
           piece ∷ pieces,
           All-cons (IsQuotedCode q e) piece pieces is starts.quotable.1,
@@ -48,8 +47,7 @@ one_more q e piece text rest is (inside, starts) =
 plain_out : (q e n : ℕ) (more rest : List ℕ) (pieces : List (List ℕ)) → n ≢ q → n ≢ e
     → All (IsQuotedCode q e) pieces → concat pieces ++ q ∷ rest ≡ n ∷ more → EndsAt q e rest
     → ClosesBefore q e more rest
-plain_out q e n more rest [] not_quote not_escape each joined ends =
-    absurd (not_quote (sym (ap (λ l. get_or l 0 0) joined)))
+plain_out q e n more rest [] not_quote not_escape each joined ends = grind arith
 plain_out q e n more rest (piece ∷ pieces) not_quote not_escape each joined ends =
     elim (All-head (IsQuotedCode q e) piece pieces each) [
       | inl h ↦
@@ -61,25 +59,17 @@ plain_out q e n more rest (piece ∷ pieces) not_quote not_escape each joined en
               ends = ends;
             },
           )
-      | inr h ↦
-          let same : e ∷ h.0 ∷ (concat pieces ++ q ∷ rest) ≡ n ∷ more = rw h.1 at joined in
-          absurd (not_escape (sym (ap (λ l. get_or l 0 0) same)))
+      | inr h ↦ grind (arith, not_escape)
     ]
 
 -- pieces that close a text whose first code is an escape of the second
 escape_out : (q e : ℕ) (more rest : List ℕ) (pieces : List (List ℕ))
     → (e ≡ q → slice_get more 0 ≡ Some q) → All (IsQuotedCode q e) pieces
     → concat pieces ++ q ∷ rest ≡ e ∷ more → EndsAt q e rest → ClosesBefore q e (drop 1 more) rest
-escape_out q e more rest [] doubled each joined ends =
-    let is_quote : e ≡ q = sym (ap (λ l. get_or l 0 0) joined) in
-    let after : rest ≡ more = ap (drop 1) joined in
-    let next = ends is_quote in
-    absurd ((rw (after, doubled is_quote) at next) refl)
+escape_out q e more rest [] doubled each joined ends = grind arith
 escape_out q e more rest (piece ∷ pieces) doubled each joined ends =
     elim (All-head (IsQuotedCode q e) piece pieces each) [
-      | inl h ↦
-          let same : h.0 ∷ (concat pieces ++ q ∷ rest) ≡ e ∷ more = rw h.1 at joined in
-          absurd (h.3 (ap (λ l. get_or l 0 0) same))
+      | inl h ↦ grind arith
       | inr h ↦
           let same : e ∷ h.0 ∷ (concat pieces ++ q ∷ rest) ≡ e ∷ more = rw h.1 at joined in (
             concat pieces,
@@ -95,8 +85,7 @@ escape_out q e more rest (piece ∷ pieces) doubled each joined ends =
 joined_pieces : (q e : ℕ) (text rest inside : List ℕ)
     (starts : StartsQuoted q e (q ∷ text) inside rest)
     → concat starts.quotable.0 ++ q ∷ rest ≡ text
-joined_pieces q e text rest inside starts =
-    ap (λ l. l ++ q ∷ rest) starts.quotable.2 ∙ ap (drop 1) starts.joined
+joined_pieces q e text rest inside starts = grind arith
 
 past_plain : (q e n : ℕ) (more rest : List ℕ) → n ≢ q → n ≢ e
     → ClosesBefore q e (n ∷ more) rest ↔ ClosesBefore q e more rest
@@ -114,11 +103,7 @@ past_escape_in q e (m ∷ more) rest doubled closes =
 
 past_escape : (q e : ℕ) (more rest : List ℕ) → (e ≡ q → slice_get more 0 ≡ Some q)
     → ClosesBefore q e (e ∷ more) rest ↔ ClosesBefore q e (drop 1 more) rest
-past_escape q e more rest doubled = (
-  λ closes. escape_out q e more rest closes.1.quotable.0 doubled
-      closes.1.quotable.1 (joined_pieces q e (e ∷ more) rest closes.0 closes.1) closes.1.ends,
-  past_escape_in q e more rest doubled,
-)
+past_escape q e more rest doubled = grind (arith, escape_out, joined_pieces, past_escape_in)
 
 -- ---- a scan from `i` on
 
@@ -160,14 +145,12 @@ scan_escape q e text i is before = goes_on q e text (drop i text) (drop (i + 2) 
     let old = sym (left_at text i e is.0) in
     let new = drop-drop 1 (i + 1) text ∙ ap (λ k. drop k text) sum in
     let step = past_escape q e more rest (λ same. first_left text (i + 1) ∙ is.1 same) in
-    subst (λ left. ClosesBefore q e left rest ↔ ClosesBefore q e (drop (i + 2) text) rest) old
-    (subst (λ left. ClosesBefore q e (e ∷ more) rest ↔ ClosesBefore q e left rest) new step))
+    grind arith)
 
 -- a code that is not an escape differs from `e`, or it is a quote with another code after it
 not_escape : (q e : ℕ) (text : List ℕ) (i n : ℕ) → slice_get text i ≡ Some n → n ≢ q
     → ¬ (IsEscapeAt q e text i) → n ≢ e
-not_escape q e text i n is not_quote not same =
-    not (is ∙ ap Some same, λ equal. absurd (not_quote (same ∙ equal)))
+not_escape q e text i n is not_quote not same = grind arith
 
 pub scan_plain : (q e : ℕ) (text : List ℕ) (i n : ℕ) → slice_get text i ≡ Some n → n ≢ q
     → ¬ (IsEscapeAt q e text i) → ClosesAsFrom q e text i → ClosesAsFrom q e text (i + 1)
@@ -179,19 +162,14 @@ scan_plain q e text i n is not_quote not before =
 -- no list begins with `q` if its first code is another
 ends_with : (q : ℕ) (rest : List ℕ) → ¬ (slice_get rest 0 ≡ Some q)
     → IfSome (slice_get rest 0) (λ next. next ≢ q)
-ends_with q [] not = tt
-ends_with q (m ∷ rest) not = λ same. not (ap Some same)
+ends_with q rest not = grind arith
 
 pub scan_quote : (q e : ℕ) (text : List ℕ) (i : ℕ) → slice_get text i ≡ Some q
     → ¬ (IsEscapeAt q e text i) → ClosesAsFrom q e text i
     → ClosesBefore q e text (drop (i + 1) text)
 scan_quote q e text i is not before =
     let rest = drop (i + 1) text in
-    let ends : EndsAt q e rest =
-    λ same. ends_with q rest (λ next. not (
-      is ∙ ap Some (sym same),
-      λ _. sym (first_left text (i + 1)) ∙ next,
-    )) in
+    let ends : EndsAt q e rest = grind (arith, ends_with, first_left) in
     (before rest).1 (rw (left_at text i q is) (closed_here q e rest ends))
 
 pub scan_end : (q e : ℕ) (text : List ℕ) (i : ℕ) → length text ≤ i → ClosesAsFrom q e text i
@@ -219,17 +197,7 @@ not_quoted q e text first none = (
 quote_out : (q e : ℕ) (x y : List ℕ) (pieces : List (List ℕ)) → EndsAt q e x
     → All (IsQuotedCode q e) pieces → concat pieces ++ q ∷ y ≡ q ∷ x → x ≡ y
 quote_out q e x y [] ends each joined = sym (ap (drop 1) joined)
-quote_out q e x y (piece ∷ pieces) ends each joined =
-    elim (All-head (IsQuotedCode q e) piece pieces each) [
-      | inl h ↦
-          let same : h.0 ∷ (concat pieces ++ q ∷ y) ≡ q ∷ x = rw h.1 at joined in
-          absurd (h.2 (ap (λ l. get_or l 0 0) same))
-      | inr h ↦
-          let same : e ∷ h.0 ∷ (concat pieces ++ q ∷ y) ≡ q ∷ x = rw h.1 at joined in
-          let is_quote : e ≡ q = ap (λ l. get_or l 0 0) same in
-          let next = ends is_quote in
-          absurd ((rw (sym (ap (drop 1) same)) at next) (h.2 is_quote))
-    ]
+quote_out q e x y (piece ∷ pieces) ends each joined = grind (arith, All-head)
 
 closes_once : (q e : ℕ) (text x y : List ℕ) (pieces : List (List ℕ)) → EndsAt q e x
     → All (IsQuotedCode q e) pieces → concat pieces ++ q ∷ x ≡ text → ClosesBefore q e text y
@@ -259,11 +227,7 @@ pub quoted_once : (q e : ℕ) (text a b x y : List ℕ) → StartsQuoted q e tex
 quoted_once q e text a b x y first second =
     let body = drop 1 text in
     let whole = ap (drop 1) first.joined in
-    let closes : ClosesBefore q e body y = (
-      b,
-      subst (λ t. StartsQuoted q e t b y) (sym first.joined
-          ∙ ap (λ l. q ∷ l) whole) second,
-    ) in
+    let closes : ClosesBefore q e body y = grind arith in
     let rest : x ≡ y = closes_once q e body x y first.quotable.0 first.ends first.quotable.1
     (ap (λ l. l ++ q ∷ x) first.quotable.2 ∙ whole) closes in
     let same : a ++ q ∷ x ≡ b ++ q ∷ y = whole ∙ sym (ap (drop 1) second.joined) in
@@ -286,7 +250,5 @@ pub quoted_taken : {A : Type 0} (inside_of rest_of : A → List ℕ) (q e : ℕ)
     → IsOkAnd result (λ t. (inside_of t ≡ a) × (rest_of t ≡ x))
 quoted_taken inside_of rest_of q e text a x (Ok t) starts taken =
     quoted_once q e text (inside_of t) a (rest_of t) x taken starts
-quoted_taken inside_of rest_of q e text a x (Err NoQuote) starts fault =
-    absurd (fault (a ++ q ∷ x) (sym starts.joined))
-quoted_taken inside_of rest_of q e text a x (Err (NotClosed p)) starts fault =
-    absurd (fault.2 a x starts)
+quoted_taken inside_of rest_of q e text a x (Err NoQuote) starts fault = grind arith
+quoted_taken inside_of rest_of q e text a x (Err (NotClosed p)) starts fault = grind arith

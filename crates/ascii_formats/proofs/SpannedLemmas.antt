@@ -1,6 +1,6 @@
 -- Where the parts of a part of a text lie.
-use Rattle.std.proofs.Common.{◌≡◌, ℕ, ◌+◌, ◌-◌, List, [], ◌++◌, length, drop, arith, sym, ap, subst, ◌∙◌}
-use Rattle.std.proofs.Common.{append_assoc, append-nil, length-append}
+use Rattle.std.proofs.Common.{◌≡◌, ℕ, ◌+◌, ◌-◌, List, [], ◌++◌, length, arith, ◌∙◌, append_assoc}
+use Rattle.std.proofs.Common.{append-nil, length-append}
 use Rattle.std.proofs.Math.Seq.{drop-append_seam}
 use Rattle.ascii_formats.specs.declared.spanned.Spanned.{Spanned}
 use Rattle.ascii.specs.Placed.{HasAt}
@@ -26,18 +26,8 @@ pub end_lies : (old new : Spanned) → EndsWith (text_of new.text) (text_of old.
 end_lies old new ends start whole lies = record {
   before = lies.before ++ ends.0;
   after = lies.after;
-  joined = append_assoc lies.before ends.0 (text_of new.text ++ lies.after)
-      ∙ (ap (λ t. lies.before ++ t)
-      (sym (append_assoc ends.0 (text_of new.text) lies.after)
-      ∙ ap (λ t. t ++ lies.after) ends.1) ∙ lies.joined);
-  start = omega (
-    arith,
-    start,
-    lies.start,
-    length-append lies.before ends.0,
-    ap length ends.1,
-    length-append ends.0 (text_of new.text),
-  );
+  joined = grind (arith, append_assoc);
+  start = grind (arith, length-append);
 }
 
 -- a text ends with what comes after a cut of it
@@ -49,8 +39,4 @@ after_cut before between after text joined =
 -- a text in which a part lies has it at the start of the part
 pub lies_at : (whole : List ℕ) (part : Spanned) → LiesIn whole part
     → HasAt whole part.start (text_of part.text)
-lies_at whole part lies =
-    let rest = text_of part.text ++ lies.after in
-    has_at whole (text_of part.text) lies.after part.start
-    (subst (λ text. drop part.start text ≡ rest) lies.joined
-    (rw lies.start (drop-append_seam lies.before rest)))
+lies_at whole part lies = grind (arith, has_at, drop-append_seam)

@@ -1,28 +1,27 @@
 -- Pieces of an escaped text: one more of them at the end, that a text is read in one way only, and
 -- that what `escape_ascii` writes is read back.
 use Rattle.std.proofs.Common.{◌≡◌, ℕ, ◌+◌, ◌<◌, ◌⊎◌, List, [], ◌∷◌, ◌++◌, length, take, drop}
-use Rattle.std.proofs.Common.{take-add}
-use Rattle.std.proofs.Common.{refl, sym, ap, ◌∙◌, append_assoc, append-nil, arith, inl, inr, get_or}
-use Rattle.std.proofs.Common.{ap₂, length-append, length-drop, take-append-drop, ◌*◌}
+use Rattle.std.proofs.Common.{take-add, refl, sym, ap, ◌∙◌, append_assoc, append-nil, arith, inl}
+use Rattle.std.proofs.Common.{inr, ap₂, length-append, length-drop, take-append-drop}
 use Rattle.std.proofs.lemmas.Bool.Decides.{nat_tests}
 use Rattle.std.specs.Char.{digit_char, digit_value}
 use Rattle.std.specs.Char.Escape.{backslash, escape_ascii, hex_digit_at, short_escape}
 use Rattle.std.specs.List.{AllZip, concat, flat_map}
-use Rattle.std.specs.Prelude.{◌/◌, ◌%◌, ◌≤◌, Err, MatchResult, Ok, Result, slice_index}
+use Rattle.std.specs.Prelude.{◌≤◌, Err, MatchResult, Ok, Result, slice_index}
 use Rattle.std.proofs.Math.Seq.{drop-append_seam}
 use Rattle.std.proofs.lemmas.Bool.{cases_lt}
 use Rattle.std.proofs.lemmas.Str.{IsAscii-drop}
 use Rattle.std.specs.Str.{IsAscii}
 use Rattle.ascii_formats.specs.declared.unescape.UnescapeError.{UnescapeError}
-use Rattle.ascii_formats.specs.declared.unescape.UnescapeError.TheVariants.{Invalid, Memory, NotAscii}
-use Rattle.ascii_formats.specs.Unescape.{HasNoPiece, IsHexEscapeOf, IsUnescapeFault}
-use Rattle.ascii_formats.specs.Unescape.{StandsFor, Unescapes}
+use Rattle.ascii_formats.specs.declared.unescape.UnescapeError.TheVariants.{Invalid, Memory}
+use Rattle.ascii_formats.specs.declared.unescape.UnescapeError.TheVariants.{NotAscii}
+use Rattle.ascii_formats.specs.Unescape.{HasNoPiece, IsHexEscapeOf, IsUnescapeFault, StandsFor}
+use Rattle.ascii_formats.specs.Unescape.{Unescapes}
 
 concat_more : (pieces : List (List ℕ)) (piece : List ℕ)
     → concat (pieces ++ piece ∷ []) ≡ concat pieces ++ piece
 concat_more [] piece = append-nil piece
-concat_more (first ∷ pieces) piece =
-    ap (λ l. first ++ l) (concat_more pieces piece) ∙ sym (append_assoc first (concat pieces) piece)
+concat_more (first ∷ pieces) piece = grind (arith, append_assoc, concat_more pieces piece)
 
 zip_more : (pieces : List (List ℕ)) (codes : List ℕ) (piece : List ℕ) (code : ℕ)
     → AllZip StandsFor pieces codes → StandsFor piece code
@@ -48,9 +47,7 @@ unescapes_more text codes at size code (pieces, joined, stand) is =
 
 -- a piece that stands for a code is not empty
 piece_some : (piece : List ℕ) (code : ℕ) → StandsFor piece code → 0 < length piece
-piece_some piece code (inl itself) = omega (arith, ap length itself.0)
-piece_some piece code (inr (inl short)) = omega (arith, ap length short.0)
-piece_some piece code (inr (inr hex)) = omega (arith, ap length hex.2)
+piece_some piece code is = grind arith
 
 short_once : (m n : ℕ) → 0 < short_escape m → short_escape m ≡ short_escape n → m ≡ n
 short_once m n some same = grind (arith, nat_tests)
@@ -61,40 +58,7 @@ not_x n same = grind (arith, nat_tests)
 -- two pieces at the start of one text stand for the same code, and the same text comes after them
 first_same : (p q x y : List ℕ) (m n : ℕ) → StandsFor p m → StandsFor q n → p ++ x ≡ q ++ y
     → (m ≡ n) × (x ≡ y)
-first_same p q x y m n (inl a) (inl b) same =
-    let e : m ∷ x ≡ n ∷ y = rw (a.0, b.0) at same in (ap (λ l. get_or l 0 0) e, ap (drop 1) e)
-first_same p q x y m n (inl a) (inr (inl b)) same =
-    let e : m ∷ x ≡ backslash ∷ short_escape n ∷ y = rw (a.0, b.0) at same in
-    absurd (a.1 (ap (λ l. get_or l 0 0) e))
-first_same p q x y m n (inl a) (inr (inr b)) same =
-    let e : m ∷ x ≡ backslash ∷ 120 ∷ b.0 ∷ b.1 ∷ y = rw (a.0, b.2) at same in
-    absurd (a.1 (ap (λ l. get_or l 0 0) e))
-first_same p q x y m n (inr (inl a)) (inl b) same =
-    let e : backslash ∷ short_escape m ∷ x ≡ n ∷ y = rw (a.0, b.0) at same in
-    absurd (b.1 (sym (ap (λ l. get_or l 0 0) e)))
-first_same p q x y m n (inr (inl a)) (inr (inl b)) same =
-    let e : backslash ∷ short_escape m ∷ x ≡ backslash ∷ short_escape n ∷ y =
-    rw (a.0, b.0) at same in
-    (short_once m n a.1 (ap (λ l. get_or l 1 0) e), ap (drop 2) e)
-first_same p q x y m n (inr (inl a)) (inr (inr b)) same =
-    let e : backslash ∷ short_escape m ∷ x ≡ backslash ∷ 120 ∷ b.0 ∷ b.1 ∷ y =
-    rw (a.0, b.2) at same in
-    let letter : short_escape m ≡ 120 = ap (λ l. get_or l 1 0) e in
-    absurd (not_x m letter)
-first_same p q x y m n (inr (inr a)) (inl b) same =
-    let e : backslash ∷ 120 ∷ a.0 ∷ a.1 ∷ x ≡ n ∷ y = rw (a.2, b.0) at same in
-    absurd (b.1 (sym (ap (λ l. get_or l 0 0) e)))
-first_same p q x y m n (inr (inr a)) (inr (inl b)) same =
-    let e : backslash ∷ 120 ∷ a.0 ∷ a.1 ∷ x ≡ backslash ∷ short_escape n ∷ y =
-    rw (a.2, b.0) at same in
-    let letter : short_escape n ≡ 120 = sym (ap (λ l. get_or l 1 0) e) in
-    absurd (not_x n letter)
-first_same p q x y m n (inr (inr a)) (inr (inr b)) same =
-    let e : backslash ∷ 120 ∷ a.0 ∷ a.1 ∷ x ≡ backslash ∷ 120 ∷ b.0 ∷ b.1 ∷ y =
-    rw (a.2, b.2) at same in
-    let high : a.0 ≡ b.0 = ap (λ l. get_or l 2 0) e in
-    let low : a.1 ≡ b.1 = ap (λ l. get_or l 3 0) e in
-    (a.5 ∙ ap₂ (λ h l. digit_value h * 16 + digit_value l) high low ∙ sym b.5, ap (drop 4) e)
+first_same p q x y m n is given same = grind (arith, short_once, not_x, ap₂)
 
 -- what the codes of a text go on with after those of its start
 reads_on : (ps qs : List (List ℕ)) (ms ns tail : List ℕ) → AllZip StandsFor ps ms
@@ -103,28 +67,17 @@ reads_on : (ps qs : List (List ℕ)) (ms ns tail : List ℕ) → AllZip StandsFo
 reads_on [] qs [] ns tail starts all joined = (ns, (qs, sym joined, all), refl)
 reads_on [] qs (m ∷ ms) ns tail starts all joined = absurd starts
 reads_on (p ∷ ps) qs [] ns tail starts all joined = absurd starts
-reads_on (p ∷ ps) [] (m ∷ ms) ns tail starts all joined =
-    let some = piece_some p m starts.0 in
-    absurd (omega (
-      arith,
-      some,
-      ap length joined,
-      length-append (p ++ concat ps) tail,
-      length-append p (concat ps),
-    ))
+reads_on (p ∷ ps) [] (m ∷ ms) ns tail starts all joined = grind (arith, piece_some, length-append)
 reads_on (p ∷ ps) (q ∷ qs) (m ∷ ms) [] tail starts all joined = absurd all
 reads_on (p ∷ ps) (q ∷ qs) (m ∷ ms) (n ∷ ns) tail starts all joined =
     let same = first_same p q (concat ps ++ tail) (concat qs) m n starts.0 all.0
     (sym (append_assoc p (concat ps) tail) ∙ joined) in
-    let left = reads_on ps qs ms ns tail starts.1 all.1 same.1 in
-    (left.0, left.1, ap₂ (λ k l. k ∷ l) (sym same.0) left.2)
+    grind (arith, ap₂, reads_on ps qs ms ns tail starts.1 all.1 same.1)
 
 nothing_more : (more : List ℕ) → Unescapes [] more → more ≡ []
 nothing_more [] all = refl
 nothing_more (n ∷ more) ([], joined, all) = absurd all
-nothing_more (n ∷ more) (q ∷ qs, joined, all) =
-    let some = piece_some q n all.0 in
-    absurd (omega (arith, some, ap length joined, length-append q (concat qs)))
+nothing_more (n ∷ more) (q ∷ qs, joined, all) = grind (arith, piece_some, length-append)
 
 -- a text is read in one way only
 pub unescapes_once : (text ms ns : List ℕ) → Unescapes text ms → Unescapes text ns → ms ≡ ns
@@ -148,8 +101,7 @@ has_piece rest (n ∷ more) some (q ∷ qs, joined, all) none = none q (concat q
 -- the first piece of a text that is read stands for the first code that is read
 first_code : (rest more : List ℕ) (size code : ℕ) → 0 < length rest → Unescapes rest more
     → StandsFor (take size rest) code → code ≡ slice_index more 0
-first_code rest more size code some ([], joined, all) is =
-    absurd (omega (arith, some, ap length joined))
+first_code rest more size code some ([], joined, all) is = grind arith
 first_code rest [] size code some (q ∷ qs, joined, all) is = absurd all
 first_code rest (n ∷ more) size code some (q ∷ qs, joined, all) is =
     (first_same (take size rest) q (drop size rest) (concat qs) code n is all.0
@@ -167,8 +119,7 @@ no_fault text ns (NotAscii p) ascii all ((inside, (ms, before)), (size, code, is
     let some : 0 < length (drop p text) = omega (arith, inside, length-drop p text) in
     let same = first_code (drop p text) more size code some left.1 is in
     let end : drop (length ms) ns ≡ more = ap (drop (length ms)) left.2 ∙ drop-append_seam ms more in
-    let low = rw end at (IsAscii-drop ns (length ms) ascii 0) in
-    absurd (omega (arith, same, low, high))
+    grind (arith, IsAscii-drop)
 no_fault text ns Memory ascii all fault = refl
 
 -- ---- what `escape_ascii` writes
@@ -178,16 +129,7 @@ digit_back d low = grind (arith, nat_tests)
 
 hex_stands : (n : ℕ) → n < 128
     → IsHexEscapeOf (backslash ∷ 120 ∷ hex_digit_at 16 n ∷ hex_digit_at 1 n ∷ []) n
-hex_stands n low =
-    let high = digit_back (n / 16 % 16) (omega arith) in
-    let low_digit = digit_back (n / 1 % 16) (omega arith) in (
-      hex_digit_at 16 n,
-      hex_digit_at 1 n,
-      refl,
-      omega (arith, high),
-      omega (arith, low_digit),
-      omega (arith, high, low_digit, low),
-    )
+hex_stands n low = grind (arith, digit_back)
 
 stands_by : (n : ℕ) → n < 128 → (0 < short_escape n) ⊎ (short_escape n ≤ 0)
     → (n < 32) ⊎ (32 ≤ n) → (n < 127) ⊎ (127 ≤ n) → StandsFor (escape_ascii n) n

@@ -1,4 +1,4 @@
-use Rattle.std.proofs.Common.{◌≡◌, ℕ, List, ◌∷◌, ◌++◌, append_assoc, sym, ap, ◌∙◌, rules}
+use Rattle.std.proofs.Common.{◌≡◌, ℕ, List, ◌∷◌, ◌++◌, append_assoc, rules, arith}
 use Rattle.std.proofs.Output.{has_written_append, has_written_styled_append}
 use Rattle.std.specs.List.{flat_map}
 use Rattle.ascii.specs.Code.{code_of}
@@ -8,8 +8,7 @@ use Rattle.ascii_formats.proofs.notations.write_all.Goals as goal
 one_more : (written : ℕ → List ℕ) (done old rest all : List ℕ) (n : ℕ)
     → old ≡ n ∷ rest → done ++ flat_map written old ≡ all
     → (done ++ written n) ++ flat_map written rest ≡ all
-one_more written done old rest all n first is =
-    append_assoc done (written n) _ ∙ ap (λ l. done ++ flat_map written l) (sym first) ∙ is
+one_more written done old rest all n first is = grind (arith, append_assoc)
 
 pub loop-ch-preserved : goal.loop-ch-preserved
 loop-ch-preserved g c =

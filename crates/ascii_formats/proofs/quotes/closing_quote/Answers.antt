@@ -1,4 +1,4 @@
-use Rattle.std.proofs.Common.{Some, ap, ◌∙◌}
+use Rattle.std.proofs.Common.{arith}
 use Rattle.std.proofs.lemmas.Option.{slice_get-get_or}
 use Rattle.ascii_formats.proofs.QuotesLemmas.{scan_end, scan_escape, scan_plain, scan_quote}
 use Rattle.ascii_formats.proofs.quotes.closing_quote.Goals as goal
@@ -14,13 +14,7 @@ scan-preserved c =
     c.if-bytes-at.false (λ is. cc (c.is_escape.ensures.1 is, c.if-is_escape.false)) c.scan.invariant
 
 pub returns-then-bytes-at : goal.returns-then-bytes-at
-returns-then-bytes-at c =
-    let text = c.args.bytes.now in
-    let at = slice_get-get_or text c.scan.at 0 c.scan-test.true ∙ ap Some c.if-bytes-at.true in (
-      c.scan-test.true,
-      scan_quote _ _ text c.scan.at at (λ is. cc (c.is_escape.ensures.1 is, c.if-is_escape.false))
-          c.scan.invariant,
-    )
+returns-then-bytes-at c = grind (arith, slice_get-get_or, scan_quote)
 
 pub returns : goal.returns
 returns c = scan_end _ _ _ c.scan.at c.scan-test.false c.scan.invariant

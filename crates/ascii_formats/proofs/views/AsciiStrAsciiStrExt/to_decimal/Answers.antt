@@ -1,8 +1,8 @@
-use Rattle.std.proofs.Common.{rules, ◌≡◌, ◌≢◌, ◌⊎◌, ◌+◌, ◌^◌, ◌<◌, [], ◌++◌}
-use Rattle.std.proofs.Common.{ap, append-nil, inl, inr, arith, length, subst, subst₂, sym, ◌∙◌}
+use Rattle.std.proofs.Common.{rules, ◌≡◌, ◌≢◌, ◌⊎◌, ◌+◌, ◌^◌, ◌<◌, [], ◌++◌, ap, append-nil, inl}
+use Rattle.std.proofs.Common.{arith, length, subst, subst₂, ◌∙◌}
 use Rattle.std.specs.Int.{from_bool}
-use Rattle.std.specs.Str.Parse.{digits_value, digits_value_after, starts_with_minus}
-use Rattle.ascii_formats.specs.Decimals.{IsDecimalFault, IsDigitFault, WritesDecimal, sign_text}
+use Rattle.std.specs.Str.Parse.{digits_value, starts_with_minus}
+use Rattle.ascii_formats.specs.Decimals.{IsDecimalFault, sign_text}
 use Rattle.ascii_formats.specs.declared.numbers.NumberError.TheVariants.{NotDigit}
 use Rattle.ascii.specs.View.{text_of}
 use Rattle.ascii_formats.proofs.DecimalsLemmas.{fails_with, fraction_fault, point_fault, signed}
@@ -19,9 +19,7 @@ returns-in_err-digits c =
     let start = c.from-start.ensures ∙ ap from_bool sign.minus in
     let joined = ap (λ l. sign_text (starts_with_minus text) ++ l) (append-nil digits ∙ sign.rest)
     ∙ signed text in
-    fails_with _ _ _ _ c.from_residual.ensures.1
-    (whole_fault text digits [] _ joined c.in_default.ensures
-    (subst (λ s. IsDigitFault s 0 digits c.in_err-digits.field-0.0) start c.in_err-digits.ensures))
+    grind (arith, fails_with, whole_fault)
 
 pub returns-in_default : goal.returns-in_default
 returns-in_default c =
@@ -29,13 +27,7 @@ returns-in_default c =
     let digits = text_of c.split_sign-negative.result.1 in
     let sign = c.split_sign-negative.ensures in
     let joined = ap (λ l. sign_text (starts_with_minus text) ++ l) sign.rest ∙ signed text in
-    let some : digits ≢ [] = search rules in
-    subst (λ minus. WritesDecimal text (record {
-      negative = minus;
-      digits = c.in_ok-digits.digits;
-      places = 0;
-    })) (sym sign.minus) (writes_whole text digits _ joined some c.in_ok-digits.ensures.0
-    c.in_ok-digits.ensures.1 (search rules))
+    grind (arith, writes_whole)
 
 pub returns-in_err-number : goal.returns-in_err-number
 returns-in_err-number c =
@@ -45,9 +37,7 @@ returns-in_err-number c =
     let start = c.from-start.ensures ∙ ap from_bool sign.minus in
     let joined = ap (λ l. sign_text (starts_with_minus text) ++ l)
     (c.in-Some.ensures.joined ∙ sign.rest) ∙ signed text in
-    fails_with _ _ _ _ c.from_residual-in_err-number.ensures.1
-    (whole_fault text whole _ _ joined c.in-Some.ensures.sides
-    (subst (λ s. IsDigitFault s 0 whole c.in_err-number.field-0.0) start c.in_err-number.ensures))
+    grind (arith, fails_with, whole_fault)
 
 pub returns-then-is_empty-2 : goal.returns-then-is_empty-2
 returns-then-is_empty-2 c =
@@ -60,8 +50,7 @@ returns-then-is_empty-2 c =
     (c.in-Some.ensures.joined ∙ sign.rest) ∙ signed text in
     let none : (whole ≡ []) ⊎ (fraction ≡ []) = elim c.then-is_empty-2.branch [
       | then-is_empty-2-via-then-is_empty-2 w ↦ inl (c.is_empty-2.ensures.0 w.if-is_empty-2.true)
-      | then-is_empty-2-via-else-is_empty-2+then-is_empty-3 w ↦
-          inr (w.is_empty-else-is_empty-2.ensures.0 w.if-is_empty-3.true)
+      | then-is_empty-2-via-else-is_empty-2+then-is_empty-3 w ↦ grind arith
     ] in
     let fits : digits_value 10 whole < 2 ^ 64 = search rules in
     let place : from_bool (starts_with_minus text) + length whole ≡ c.from-start.result
@@ -82,14 +71,10 @@ returns-in_err-digits-2 c =
     (c.in-Some.ensures.joined ∙ sign.rest) ∙ signed text in
     let some : whole ≢ [] = search rules in
     let place : c.from-start.result + c.len.result + 1
-    ≡ from_bool (starts_with_minus text) + length whole + 1 =
-    omega (arith, start, c.len.ensures) in
+    ≡ from_bool (starts_with_minus text) + length whole + 1 = grind arith in
     fails_with _ _ _ _ c.from_residual-in_err-digits-2.ensures.1
     (fraction_fault text whole fraction kept _ joined c.in_ok-number.ensures.0 some
-    c.without_zeros-kept.ensures
-    (subst (λ s. IsDigitFault s (digits_value 10 whole) kept error) place
-    (subst (λ n. IsDigitFault (c.from-start.result + c.len.result + 1) n kept error)
-    c.in_ok-number.ensures.1 c.in_err-digits-2.ensures)))
+    c.without_zeros-kept.ensures (grind arith))
 
 pub returns : goal.returns
 returns c =
@@ -100,15 +85,4 @@ returns c =
     let sign = c.split_sign-negative.ensures in
     let joined = ap (λ l. sign_text (starts_with_minus text) ++ l)
     (c.in-Some.ensures.joined ∙ sign.rest) ∙ signed text in
-    let some : whole ≢ [] = search rules in
-    let after : fraction ≢ [] = search rules in
-    let value = c.in_ok-digits-2.ensures.1
-    ∙ ap (λ n. digits_value_after 10 n kept) c.in_ok-number.ensures.1 in
-    let fits : c.in_ok-digits-2.digits < 2 ^ 64 = search rules in
-    subst₂ (λ minus places. WritesDecimal text (record {
-      negative = minus;
-      digits = c.in_ok-digits-2.digits;
-      places = places;
-    })) (sym sign.minus) (sym c.len-2.ensures) (writes_fraction text whole fraction kept _ joined
-    c.in_ok-number.ensures.0 some after c.without_zeros-kept.ensures c.in_ok-digits-2.ensures.0
-    value fits)
+    grind (arith, subst₂, writes_fraction)
