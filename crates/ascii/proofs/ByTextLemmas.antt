@@ -1,7 +1,6 @@
 -- How the pieces of a text at another text break at the front.
-use Rattle.std.proofs.Common.{◌≡◌, ◌≢◌, ℕ, zero, suc, ◌+◌, ◌<◌, ◌≤◌, false, List, [], ◌∷◌}
-use Rattle.std.proofs.Common.{length, take, drop, refl, sym, ap, ◌∙◌, arith, inl, inr}
-use Rattle.std.proofs.Common.{None, Some}
+use Rattle.std.proofs.Common.{◌≡◌, ◌≢◌, ℕ, zero, suc, ◌+◌, ◌<◌, ◌≤◌, false, List, [], ◌∷◌, length}
+use Rattle.std.proofs.Common.{take, drop, refl, ap, ◌∙◌, arith, inl, inr, None, Some}
 use Rattle.std.specs.List.{onto_first}
 use Rattle.std.proofs.lemmas.Bool.{cases_Bool, cond_both, cond-true, cond-false}
 use Rattle.std.proofs.lemmas.List.{get_or-take, length-take-le}
@@ -15,12 +14,10 @@ use Rattle.ascii.proofs.SpansLemmas.{items-with_starts, length-with_starts}
 
 module _ (c : ℕ) (t needle : List ℕ) (k : ℕ) where
   pub later : OccursAt (c ∷ t) needle (suc k) → OccursAt t needle k
-  later occurs = let fits = occurs.fits in
-      OccursAt-from_part t needle k (omega (arith, fits)) (OccursAt-part (c ∷ t) needle (suc k) occurs)
+  later occurs = grind (arith, OccursAt-from_part, OccursAt-part)
 
   pub sooner : OccursAt t needle k → OccursAt (c ∷ t) needle (suc k)
-  sooner occurs = let fits = occurs.fits in
-      OccursAt-from_part (c ∷ t) needle (suc k) (omega (arith, fits)) (OccursAt-part t needle k occurs)
+  sooner occurs = grind (arith, OccursAt-from_part, OccursAt-part)
 
 module _ (first : ℕ) (others : List ℕ) where
   abbrev needle : List ℕ
@@ -46,9 +43,7 @@ module _ (first : ℕ) (others : List ℕ) where
   pieces_found [] k occurs none = absurd (let fits = occurs.fits in omega (arith, fits))
   pieces_found (c ∷ t) zero occurs none =
       let after : suc (length others) ≡ 0 + length needle = omega arith in
-      cond-true _ _ _ (occurs_at-true (c ∷ t) needle 0 occurs)
-      ∙ (ap (λ ps. [] ∷ ps) (after_skip (length others) t)
-      ∙ ap (λ n. [] ∷ pieces_after first others 0 (drop n (c ∷ t))) after)
+      cond-true _ _ _ (occurs_at-true (c ∷ t) needle 0 occurs) ∙ (grind (arith, after_skip))
   pieces_found (c ∷ t) (suc k) occurs none =
       let after : suc (k + length needle) ≡ suc k + length needle = omega arith in
       cond-false _ _ _ (not_here (c ∷ t) (none 0 (omega arith)))
@@ -66,29 +61,18 @@ module _ (first : ℕ) (others : List ℕ) where
   -- there is at least one, and at most one more than the codes of the text
   length-onto_first : (x : ℕ) (ps : List (List ℕ)) → 0 < length ps
       → length (onto_first x ps) ≡ length ps
-  length-onto_first x [] some = absurd (omega (arith, some))
-  length-onto_first x (p ∷ ps) some = refl
+  length-onto_first x ps some = grind arith
 
   pub pieces_many : (skip : ℕ) (t : List ℕ) → (0 < length (pieces_after first others skip t))
       × (length (pieces_after first others skip t) ≤ length t + 1)
   pieces_many skip [] = (omega arith, omega arith)
-  pieces_many (suc skip) (c ∷ t) =
-      let many = pieces_many skip t in (many.0, omega (arith, many.1))
-  pieces_many zero (c ∷ t) = cond_both (occurs_at (c ∷ t) needle 0) _ _
-      (λ ps. (0 < length ps) × (length ps ≤ length (c ∷ t) + 1))
-      (λ is. let many = pieces_many (length others) t in (omega arith, omega (arith, many.1)))
-      (λ is. let many = pieces_many zero t in
-      let same = length-onto_first c (pieces_after first others zero t) many.0 in
-      (omega (arith, many.0, same), omega (arith, many.1, same)))
+  pieces_many (suc skip) (c ∷ t) = grind (arith, pieces_many skip t)
+  pieces_many zero (c ∷ t) =
+      grind (arith, cond_both, length-onto_first, pieces_many (length others) t, pieces_many zero t)
 
 pub piece_spans_at_fit : (start : ℕ) (needle t : List ℕ)
     → length (piece_spans_at needle (record { start = start; item = t })) ≤ length t + 1
-piece_spans_at_fit start [] t = omega arith
-piece_spans_at_fit start (n ∷ ns) t = omega (
-  arith,
-  length-with_starts (after_piece (length (n ∷ ns))) start (pieces_after n ns 0 t),
-  (pieces_many n ns 0 t).1,
-)
+piece_spans_at_fit start needle t = grind (arith, length-with_starts, pieces_many)
 
 -- found nowhere
 nowhere : (t needle : List ℕ) → FindsNeedle t needle 0 None → (j : ℕ) → ¬ (OccursAt t needle j)
@@ -138,8 +122,7 @@ module _ (start : ℕ) (t needle : List ℕ) where
       let long : 0 < length needle = some_long needle some in
       finds.0.before j (omega arith) (omega (arith, inside, size, long)) (record {
         fits = omega (arith, inside, size, fits);
-        reads = λ i below. sym (get_or-take k t (j + i) 0 (omega (arith, inside, size)))
-            ∙ occurs.reads i below;
+        reads = grind (arith, get_or-take);
       })
     where
       some_long : (xs : List ℕ) → xs ≢ [] → 0 < length xs
@@ -154,27 +137,20 @@ module _ (start : ℕ) (t needle : List ℕ) where
 -- there is at least one piece
 pub piece_spans_at_some : (start : ℕ) (needle t : List ℕ)
     → 0 < length (piece_spans_at needle (record { start = start; item = t }))
-piece_spans_at_some start [] t = omega arith
-piece_spans_at_some start (n ∷ ns) t = omega (
-  arith,
-  length-with_starts (after_piece (length (n ∷ ns))) start (pieces_after n ns 0 t),
-  (pieces_many n ns 0 t).0,
-)
+piece_spans_at_some start needle t = grind (arith, length-with_starts, pieces_many)
 
 -- the first of them comes after the first piece
 between_first : (needle : List ℕ) (piece : WithStart (List ℕ)) (pieces : List (WithStart (List ℕ)))
     → 0 < length pieces → match_spans_between needle (piece ∷ pieces)
     ≡ record { start = piece.start + length piece.item; item = needle }
     ∷ match_spans_between needle pieces
-between_first needle piece [] some = absurd (omega (arith, some))
-between_first needle piece (next ∷ pieces) some = refl
+between_first needle piece pieces some = grind arith
 
 between_items : (n : List ℕ) (pieces : List (WithStart (List ℕ)))
     → items_of (match_spans_between n pieces) ≡ matches_between n (items_of pieces)
 between_items n [] = refl
 between_items n (piece ∷ []) = refl
-between_items n (piece ∷ next ∷ pieces) =
-    ap (λ others. n ∷ others) (between_items n (next ∷ pieces))
+between_items n (piece ∷ next ∷ pieces) = grind (arith, between_items n (next ∷ pieces))
 
 between_count : (needle : List ℕ) (pieces : List (WithStart (List ℕ)))
     → length (match_spans_between needle pieces) ≤ length pieces
@@ -185,17 +161,11 @@ between_count needle (piece ∷ next ∷ pieces) = omega (arith, between_count n
 module _ (start : ℕ) (needle t : List ℕ) where
   pub matches_of_spans :
       items_of (match_spans_at needle (record { start = start; item = t })) ≡ matches_at needle t
-  matches_of_spans = between_items needle (piece_spans_at needle (record { start = start; item = t }))
-      ∙ ap (matches_between needle)
-      (items-with_starts (after_piece (length needle)) start (pieces_at needle t))
+  matches_of_spans = grind (arith, between_items, items-with_starts)
 
   pub match_spans_fit :
       length (match_spans_at needle (record { start = start; item = t })) ≤ length t + 1
-  match_spans_fit = omega (
-    arith,
-    between_count needle (piece_spans_at needle (record { start = start; item = t })),
-    piece_spans_at_fit start needle t,
-  )
+  match_spans_fit = grind (arith, between_count, piece_spans_at_fit)
 
   pub pieces_of_spans_at :
       items_of (piece_spans_at needle (record { start = start; item = t })) ≡ pieces_at needle t
@@ -206,17 +176,8 @@ module _ (start : ℕ) (needle t : List ℕ) where
       ≡ record { start = start + k; item = needle } ∷ match_spans_at needle
       (record { start = start + (k + length needle); item = drop (k + length needle) t })
   match_spans_at_first k some finds =
-      let fits = finds.1.fits in
-      let size : length (take k t) ≡ k = length-take-le k t (omega (arith, fits)) in
-      let others : List (WithStart (List ℕ)) = piece_spans_at needle
-      (record { start = start + (k + length needle); item = drop (k + length needle) t }) in
-      ap (match_spans_between needle) (piece_spans_at_first start t needle k some finds)
-      ∙ (between_first needle (record { start = start; item = take k t }) others
-      (piece_spans_at_some (start + (k + length needle)) needle (drop (k + length needle) t))
-      ∙ ap (λ m. record { start = start + m; item = needle } ∷ match_spans_between needle others)
-      size)
+      grind (arith, length-take-le, piece_spans_at_first, between_first, piece_spans_at_some)
 
   pub match_spans_at_none : FindsNeedle t needle 0 None
       → match_spans_at needle (record { start = start; item = t }) ≡ []
-  match_spans_at_none finds =
-      ap (match_spans_between needle) (piece_spans_at_none start t needle finds)
+  match_spans_at_none finds = grind (arith, piece_spans_at_none)

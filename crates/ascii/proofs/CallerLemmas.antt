@@ -2,8 +2,8 @@
 -- caller as `#[tactic(auto, using(ascii::proofs::CallerLemmas::last_of_pieces))]`.
 use Rattle.std.proofs.Common.{◌≡◌, ◌≢◌, ℕ, ◌+◌, ◌≤◌, List, [], ◌∷◌, ◌++◌, length, append-nil, refl}
 use Rattle.std.proofs.Common.{arith, append_assoc, ap, ◌∙◌, Result, IsOk, OnOk, ◌-◌, ◌<◌, Option}
-use Rattle.std.proofs.Common.{Some, get_or, length-append, map, sym, subst, Bool, true, false, cond}
-use Rattle.std.proofs.Common.{◌↔◌, is_some}
+use Rattle.std.proofs.Common.{Some, get_or, length-append, map, sym, subst, Bool, true, false, ◌↔◌}
+use Rattle.std.proofs.Common.{is_some}
 use Rattle.std.specs.Char.{is_ascii}
 use Rattle.std.specs.Iterator.{YieldsFirstBy}
 use Rattle.std.specs.Fn.{Called, Mut}
@@ -25,13 +25,10 @@ use Rattle.ascii_base.specs.declared.ascii_char.AsciiChar.{AsciiChar}
 use Rattle.ascii.specs.ByClass.{whole}
 use Rattle.ascii.specs.Chunks.{ChunksOf, Run}
 use Rattle.ascii.specs.Extend.{Collects, Extends}
-use Rattle.ascii.specs.Lines.{Line, LinesOf}
-use Rattle.ascii.specs.Lines.{bodies, line_text}
+use Rattle.ascii.specs.Lines.{Line, LinesOf, bodies, line_text}
 use Rattle.ascii.specs.Pieces.{Pieces, Remaining}
-use Rattle.ascii.specs.Spans.{LineSpansOf, PieceSpans, WithStart}
-use Rattle.ascii.specs.Spans.{items_of, line_size, piece_size}
+use Rattle.ascii.specs.Spans.{LineSpansOf, PieceSpans, WithStart, items_of, with_starts}
 use Rattle.ascii.specs.Retain.{RetainsChars}
-use Rattle.ascii.specs.Spans.{with_starts}
 use Rattle.ascii.specs.Steps.{DropsFirst, StepsText, YieldsFirstAnd, at_front}
 use Rattle.ascii.specs.TheCuts.{at_code}
 use Rattle.ascii.specs.StringState.{StringState}
@@ -43,7 +40,7 @@ use Rattle.ascii.proofs.PiecesLemmas.{HasNo-from_absent, Pieces-only, Pieces-pie
 use Rattle.ascii.proofs.PiecesLemmas.{pieces_of-free, pieces_of-split_at_last}
 use Rattle.ascii.proofs.SpansLemmas.{room, room-lines, room-pieces, with_starts-last}
 use Rattle.ascii.proofs.StepsLemmas.{road_from_first_and}
-use Rattle.std.specs.Option.{IfSome, IsSomeAnd}
+use Rattle.std.specs.Option.{IfSome}
 use Rattle.std.proofs.Math.Seq.{get_or-append_seam, take-append_seam}
 use Rattle.std.proofs.lemmas.Bool.{and_parts, lt-ltb, ltb-true}
 use Rattle.std.proofs.lemmas.Bool.Decides.{nat_tests}
@@ -54,7 +51,7 @@ use Rattle.ascii_base.specs.Case.{lower_image, upper_image}
 use Rattle.ascii_base.specs.First.{IsFirstAt}
 use Rattle.ascii.specs.Found.{pieces_of}
 use Rattle.ascii.specs.Search.{ContainsText, IsCut}
-use Rattle.ascii.specs.Trim.{IsSpan, Trims, TrimsEnd}
+use Rattle.ascii.specs.Trim.{IsSpan, Trims}
 
 -- ---- ASCII by a test
 
@@ -67,8 +64,7 @@ ascii_by_test (code ∷ others) pass =
 
 -- each code of an ASCII text passes the test
 pub test_by_ascii : (text : List ℕ) → IsAscii text → IsTrue (list_all is_ascii text)
-test_by_ascii text ascii = list_all-from_AllPass is_ascii text (λ k d inside.
-    lt-ltb (get_or text k d) 128 (All-from_ascii text ascii k d inside))
+test_by_ascii text ascii = grind (arith, list_all-from_AllPass, lt-ltb, All-from_ascii)
 
 -- ---- a search
 
@@ -90,8 +86,7 @@ join_with_last on (piece ∷ next ∷ others) last some =
 -- the text of the other pieces, the separator and the last piece are the text
 pub last_of_pieces : (on : ℕ) (text front last : List ℕ) (pieces : List (List ℕ))
     → Pieces text on (pieces ++ last ∷ []) → Pieces front on pieces → front ++ on ∷ last ≡ text
-last_of_pieces on text front last pieces whole left =
-    rw (join_with_last on pieces last left.some, left.joined) at whole.joined
+last_of_pieces on text front last pieces whole left = grind (arith, join_with_last)
 
 -- a text without the separator is its one piece
 pub one_piece : (on : ℕ) (text : List ℕ) (pieces : List (List ℕ))
@@ -112,17 +107,14 @@ pieces_from_last_cut on text before last cut = (
 -- the text of the other lines and the last line, with its ending, are the text
 pub last_of_lines : (text front : List ℕ) (last : Line) (lines : List Line)
     → LinesOf text (lines ++ last ∷ []) → LinesOf front lines → front ++ line_text last ≡ text
-last_of_lines text front last lines whole left =
-    rw (flat_map-append, left.joined, append-nil (line_text last)) at whole.joined
+last_of_lines text front last lines whole left = grind (arith, flat_map-append, append-nil)
 
 -- the last of items that are laid end to end starts where the others end
 last_start : {A : Type 0} (size : A → ℕ) (start : ℕ) (spans : List (WithStart A))
     (last : WithStart A)
     → spans ++ last ∷ [] ≡ with_starts size start (items_of (spans ++ last ∷ []))
     → last.start ≡ start + room size (items_of spans)
-last_start size start spans last whole =
-    ap (λ span. span.start) (same_from_push spans _ last _
-    (rw (map_push, with_starts-last size start (items_of spans) last.item) at whole)).1
+last_start size start spans last whole = grind (arith, same_from_push, map_push, with_starts-last)
 
 -- the last piece starts after the text of the others and one separator, and joins it to the text
 pub last_of_piece_spans : (start on : ℕ) (text front : List ℕ) (last : WithStart (List ℕ))
@@ -131,12 +123,7 @@ pub last_of_piece_spans : (start on : ℕ) (text front : List ℕ) (last : WithS
     → (last.start ≡ start + length front + 1) × (front ++ on ∷ last.item ≡ text)
 last_of_piece_spans start on text front last spans whole left =
     let items = items_of spans in (
-      omega (
-        arith,
-        last_start piece_size start spans last whole.starts,
-        room-pieces on items left.pieces.some,
-        ap length left.pieces.joined,
-      ),
+      grind (arith, last_start, room-pieces),
       last_of_pieces on text front last.item items (rw map_push at whole.pieces) left.pieces,
     )
 
@@ -147,12 +134,7 @@ pub last_of_line_spans : (start : ℕ) (text front : List ℕ) (last : WithStart
     → (last.start ≡ start + length front) × (front ++ line_text last.item ≡ text)
 last_of_line_spans start text front last spans whole left =
     let items = items_of spans in (
-      omega (
-        arith,
-        last_start line_size start spans last whole.starts,
-        room-lines items,
-        ap length left.lines.joined,
-      ),
+      grind (arith, last_start, room-lines),
       last_of_lines text front last.item items (rw map_push at whole.lines) left.lines,
     )
 
@@ -226,30 +208,22 @@ pub span_first : (Is : ℕ → Type 0) (text front rest : List ℕ) → IsSpan I
 span_first Is text front [] span some = absurd (some refl)
 span_first Is text front (c ∷ rest) span some =
     let Other : ℕ → Type 0 = λ code. ¬ (Is code) in
-    let inside : length front < length (front ++ c ∷ rest) =
-    omega (arith, length-append front (c ∷ rest)) in
+    let inside : length front < length (front ++ c ∷ rest) = grind (arith, length-append) in
     let at = slice_get-get_or (front ++ c ∷ rest) (length front) c inside
     ∙ ap Some (get_or-append_seam front c rest c) in
-    subst (λ t. IsFirstAt Is Other t (length front)) span.joined (record {
-      here = subst (λ o. IsSomeAnd o Other) (sym at) span.bounded;
-      before = subst (All Is) (sym (take-append_seam front (c ∷ rest))) span.within;
-    })
+    grind (arith, take-append_seam)
 
 -- ---- what is done twice
 
 -- the upper case of a text in upper case is that text
 pub upper_twice : (t : List ℕ) → map upper_image (map upper_image t) ≡ map upper_image t
 upper_twice [] = refl
-upper_twice (n ∷ t) =
-    let here : upper_image (upper_image n) ≡ upper_image n = grind (arith, nat_tests) in
-    cc (here, upper_twice t)
+upper_twice (n ∷ t) = grind (arith, nat_tests, upper_twice t)
 
 -- the lower case of a text in lower case is that text
 pub lower_twice : (t : List ℕ) → map lower_image (map lower_image t) ≡ map lower_image t
 lower_twice [] = refl
-lower_twice (n ∷ t) =
-    let here : lower_image (lower_image n) ≡ lower_image n = grind (arith, nat_tests) in
-    cc (here, lower_twice t)
+lower_twice (n ∷ t) = grind (arith, nat_tests, lower_twice t)
 
 module _ (Is : ℕ → Type 0) where
   -- the code at a position of a text is not in the class, if there is one
@@ -259,8 +233,7 @@ module _ (Is : ℕ → Type 0) where
   -- a text that begins with another code has no leading codes of the class to cut
   no_start : (t m cut : List ℕ) → IsSpan Is t cut m → IsBounded t 0 → m ≡ t
   no_start t m [] span bounded = span.joined
-  no_start t m (c ∷ cut) span bounded = absurd (subst (λ xs. IsBounded xs 0) (sym span.joined)
-      bounded (All-head Is c cut span.within))
+  no_start t m (c ∷ cut) span bounded = absurd (grind (arith, All-head))
 
   -- a text that ends with another code has no trailing codes of the class to cut
   no_end : (t m cut : List ℕ) → m ++ cut ≡ t → All Is cut → IsBounded t (length t - 1) → m ≡ t
@@ -271,24 +244,18 @@ module _ (Is : ℕ → Type 0) where
       let inside : length xs - 1 < length xs = omega (arith, length-append m (c ∷ cut)) in
       let at : get_or xs (length xs - 1) 0 ≡ get_or (c ∷ cut) last 0 =
       grind (arith, common_steps) in
-      let is = slice_get-get_or xs (length xs - 1) 0 inside ∙ ap Some at in
-      let P : Option ℕ → Type 0 = λ o. IfSome o (λ code. ¬ (Is code)) in
-      absurd (subst P is (subst (λ ys. IsBounded ys (length ys - 1)) (sym joined) bounded)
-      (All-get_or Is (c ∷ cut) last 0 (omega arith) within))
+      grind (arith, slice_get-get_or, All-get_or)
 
   -- a text without leading codes of the class has none after its trailing ones are cut
   still_bounded : (t m cut : List ℕ) → m ++ cut ≡ t → IsBounded t 0 → IsBounded m 0
   still_bounded t [] cut joined bounded = tt
-  still_bounded t (c ∷ m) cut joined bounded =
-      subst (λ xs. IsBounded xs 0) (sym joined) bounded
+  still_bounded t (c ∷ m) cut joined bounded = grind arith
 
   -- trimming a trimmed text leaves it as it is
   pub trims_twice : (t m again : List ℕ) → Trims Is t m → Trims Is m again → again ≡ m
   trims_twice t m again once twice =
       let start = still_bounded once.0 m once.2.cut once.2.joined once.1.span.bounded in
-      let mid : twice.0 ≡ m = no_start m twice.0 twice.1.cut twice.1.span start in
-      let end = subst (λ xs. TrimsEnd Is xs again) mid twice.2 in
-      no_end m again end.cut end.joined end.within once.2.bounded
+      grind (arith, no_start, no_end)
 
 -- ---- chunks, and characters that are kept
 
@@ -296,21 +263,12 @@ module _ (Is : ℕ → Type 0) where
 pub joined_chunks : (part : WithStart (List ℕ)) (chunks : List (WithStart Run))
     → ChunksOf part chunks → flat_map (λ chunk. chunk.item.bytes) chunks ≡ part.item
 joined_chunks part [] none = sym none
-joined_chunks part (chunk ∷ chunks) held =
-    ap (λ t. chunk.item.bytes ++ t) (joined_chunks held.0 chunks held.2) ∙ held.1.joined
+joined_chunks part (chunk ∷ chunks) held = grind (arith, joined_chunks held.0 chunks held.2)
 
 codes_kept : (test : ℕ → Bool) (chars : List AsciiChar)
     → map code_of (filter (λ ch. test (code_of ch)) chars) ≡ filter test (map code_of chars)
 codes_kept test [] = refl
-codes_kept test (ch ∷ chars) =
-    let kept = filter (λ other. test (code_of other)) chars in
-    let codes = filter test (map code_of chars) in
-    let same = codes_kept test chars in
-    elim (test (code_of ch)) as (λ b.
-    map code_of (cond b (ch ∷ kept) kept) ≡ cond b (code_of ch ∷ codes) codes) [
-      | true ↦ ap (λ t. code_of ch ∷ t) same
-      | false ↦ same
-    ]
+codes_kept test (ch ∷ chars) = grind (arith, codes_kept test chars)
 
 -- a closure that tests the code of each character leaves a filter of the codes
 pub kept_by_code : {F : Type 0} (calls : Mut F (AsciiChar × Unit {0}) Bool) (test : ℕ → Bool)
@@ -320,17 +278,14 @@ pub kept_by_code : {F : Type 0} (calls : Mut F (AsciiChar × Unit {0}) Bool) (te
 kept_by_code calls test says keep old new is =
     let kept = filter_from_retain (λ f ch stays g. Called calls f (ch, tt) stays g)
     (λ ch. test (code_of ch)) says keep is.all is.kept is.chosen in
-    sym is.stay ∙ (ap (map code_of) kept
-    ∙ (codes_kept test is.all ∙ ap (filter test) is.are))
+    grind (arith, codes_kept)
 
 -- a closure that returns `true` only for codes of the class leaves only codes of the class
 pub kept_in_class : {F : Type 0} (calls : Mut F (AsciiChar × Unit {0}) Bool) (Is : ℕ → Type 0)
     (keep : F) (old new : List ℕ) → RetainsChars calls keep old new
     → ((f : F) (ch : AsciiChar) (g : F) → Called calls f (ch, tt) true g → Is (code_of ch))
     → All Is new
-kept_in_class {F} calls Is keep old new is says =
-    subst (All Is) is.stay (each keep is.all is.chosen.0 is.chosen.1 is.chosen.2 is.kept
-    is.chosen.3 is.chosen.4)
+kept_in_class {F} calls Is keep old new is says = subst (All Is) is.stay (grind (arith, each))
   where
     R : F → AsciiChar → Bool → F → Type 0
     R f ch stays g = Called calls f (ch, tt) stays g

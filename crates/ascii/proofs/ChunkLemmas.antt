@@ -1,7 +1,7 @@
 -- The chunks of bytes: that they are one list, and that loops see them in order.
-use Rattle.std.proofs.Common.{◌≡◌, ◌≢◌, ℕ, ◌+◌, ◌-◌, List, [], ◌∷◌, ◌++◌, length, map, refl}
-use Rattle.std.proofs.Common.{sym, ap, subst, ◌∙◌, arith, None, Some, Option, append_assoc, reverse}
-use Rattle.std.proofs.Common.{append-nil, get_or, length-append, Bool, true, false, not}
+use Rattle.std.proofs.Common.{◌≡◌, ◌≢◌, ℕ, ◌+◌, ◌-◌, List, [], ◌∷◌, ◌++◌, length, map, refl, sym}
+use Rattle.std.proofs.Common.{ap, subst, ◌∙◌, arith, None, Option, append_assoc, reverse}
+use Rattle.std.proofs.Common.{append-nil, get_or, length-append, Bool, not}
 use mathlib.Core.List.{reverse-cons}
 use Rattle.std.specs.List.{All, slice_get}
 use Rattle.std.specs.Option.{IfSome}
@@ -10,41 +10,31 @@ use Rattle.std.specs.Iterator.Runs.{YieldsRun}
 use Rattle.std.proofs.lemmas.List.Elements.{All-head}
 use Rattle.ascii.specs.declared.chunks.AsciiChunk.{AsciiChunk}
 use Rattle.ascii.specs.Chunks.{ChunksOf, HasOneListOfChunks, IsByteOf, IsFirstChunk, IsLastChunk}
-use Rattle.ascii.specs.Chunks.{IsRun, LoopsBackOverChunks, LoopsOverChunks, Run}
-use Rattle.ascii.specs.Chunks.{YieldsFirstChunk, YieldsLastChunk, chunk_in}
+use Rattle.ascii.specs.Chunks.{IsRun, LoopsBackOverChunks, LoopsOverChunks, Run, YieldsFirstChunk}
+use Rattle.ascii.specs.Chunks.{YieldsLastChunk, chunk_in}
 use Rattle.ascii.specs.Spans.{WithStart}
 use Rattle.ascii.proofs.RunLemmas.{end_kept, last_code, last_of_all, one_span, same_span}
 
 -- ---- the two kinds of bytes
 
 not_both : (ascii : Bool) (byte : ℕ) → IsByteOf ascii byte → IsByteOf (not ascii) byte → ⊥
-not_both true byte is other = other is
-not_both false byte is other = is other
+not_both ascii byte is other = grind arith
 
 same_kind : (a b : Bool) (byte : ℕ) → IsByteOf a byte → IsByteOf b byte → a ≡ b
-same_kind true true byte is too = refl
-same_kind false false byte is too = refl
-same_kind true false byte is too = absurd (too is)
-same_kind false true byte is too = absurd (is too)
+same_kind a b byte is too = grind arith
 
 other_kind : (a b : Bool) (byte : ℕ) → IsByteOf a byte → IsByteOf (not b) byte → not a ≡ b
-other_kind true true byte is too = absurd (too is)
-other_kind false false byte is too = absurd (is too)
-other_kind true false byte is too = refl
-other_kind false true byte is too = refl
+other_kind a b byte is too = grind arith
 
 past : (ascii : Bool) (o : Option ℕ) → IfSome o (IsByteOf (not ascii))
     → IfSome o (λ byte. ¬ (IsByteOf ascii byte))
-past ascii None held = tt
-past ascii (Some byte) held = λ is. not_both ascii byte is held
+past ascii o held = grind (arith, not_both)
 
 same_run : (a b : Run) → a.ascii ≡ b.ascii → a.bytes ≡ b.bytes → a ≡ b
-same_run a b kinds bytes = ap (λ k. record { ascii = k; bytes = a.bytes }) kinds
-    ∙ ap (λ t. record { ascii = b.ascii; bytes = t }) bytes
+same_run a b kinds bytes = grind arith
 
 chunk_at : (a b : WithStart Run) → a.start ≡ b.start → a.item ≡ b.item → a ≡ b
-chunk_at a b starts items = ap (λ n. record { start = n; item = a.item }) starts
-    ∙ ap (λ t. record { start = b.start; item = t }) items
+chunk_at a b starts items = grind arith
 
 -- ---- one list of chunks
 
@@ -52,10 +42,7 @@ kinds_of : (a b : Bool) (s t x y : List ℕ) → s ++ x ≡ t ++ y → s ≢ [] 
     → All (IsByteOf a) s → All (IsByteOf b) t → a ≡ b
 kinds_of a b [] t x y same some more front other = absurd (some refl)
 kinds_of a b (c ∷ s) [] x y same some more front other = absurd (more refl)
-kinds_of a b (c ∷ s) (d ∷ t) x y same some more front other =
-    let head : c ≡ d = cc in
-    same_kind a b c (All-head (IsByteOf a) c s front)
-    (subst (IsByteOf b) (sym head) (All-head (IsByteOf b) d t other))
+kinds_of a b (c ∷ s) (d ∷ t) x y same some more front other = grind (arith, same_kind, All-head)
 
 -- the first chunk of a part, and what follows it, are the only ones
 one_first_chunk : (part : WithStart (List ℕ)) (chunk : WithStart Run) (rest : WithStart (List ℕ))
@@ -69,12 +56,9 @@ one_first_chunk part chunk rest other left is too =
     is.is_run.some too.is_run.some is.is_run.one too.is_run.one in
     let cut = one_span (IsByteOf run.ascii) run.bytes also.bytes rest.item left.item same
     is.is_run.one (subst (λ k. All (IsByteOf k) also.bytes) (sym kind) too.is_run.one)
-    (past run.ascii (slice_get rest.item 0) is.bounded)
-    (past run.ascii (slice_get left.item 0)
-    (subst (λ k. IfSome (slice_get left.item 0) (IsByteOf (not k))) (sym kind) too.bounded)) in (
+    (past run.ascii (slice_get rest.item 0) is.bounded) (grind (arith, past, not)) in (
       chunk_at chunk other (is.start ∙ sym too.start) (same_run run also kind cut.0),
-      same_span rest left
-          (is.after ∙ (ap (λ t. part.start + length t) cut.0 ∙ sym too.after)) cut.1,
+      grind (arith, same_span),
     )
 
 empty : (s t : List ℕ) → s ≢ [] → s ++ t ≡ [] → ⊥
@@ -84,8 +68,7 @@ empty (c ∷ s) t some none = cc none
 -- an empty part has no chunk
 no_chunk : (part : WithStart (List ℕ)) (chunk : WithStart Run) (rest : WithStart (List ℕ))
     → IsFirstChunk part chunk rest → part.item ≡ [] → ⊥
-no_chunk part chunk rest is none =
-    empty chunk.item.bytes rest.item is.is_run.some (is.joined ∙ none)
+no_chunk part chunk rest is none = grind (arith, empty)
 
 pub ChunksOf-only : (part : WithStart (List ℕ)) → HasOneListOfChunks part
 ChunksOf-only part [] [] held also = refl
@@ -120,14 +103,12 @@ border first last front [] is too joined bounded edge =
     let at = last_code (IsByteOf (not last.ascii)) first.bytes is.some (subst End whole edge) in
     let kind = other_kind first.ascii last.ascii (get_or first.bytes (length first.bytes - 1) 0)
     (last_of_all (IsByteOf first.ascii) first.bytes is.some is.one) at in
-    subst (λ k. IfSome (slice_get last.bytes 0) (IsByteOf k)) (sym kind)
-    (head_of_run last.ascii last.bytes too.some too.one)
+    grind (arith, head_of_run)
 
 end_of : (P : ℕ → Type 0) (front rest : List ℕ)
     → IfSome (slice_get (front ++ rest) (length (front ++ rest) - 1)) P
     → IfSome (slice_get rest (length rest - 1)) P
-end_of P front [] edge = tt
-end_of P front (c ∷ rest) edge = end_kept P front (c ∷ rest) (λ none. cc none) edge
+end_of P front rest edge = grind (arith, end_kept)
 
 -- the chunks of what comes before the last chunk, and the last chunk, are the chunks of the part
 pub ChunksOf-push : (part : WithStart (List ℕ)) (chunk : WithStart Run)
@@ -135,14 +116,7 @@ pub ChunksOf-push : (part : WithStart (List ℕ)) (chunk : WithStart Run)
     → IsLastChunk part chunk front → ChunksOf part (chunks ++ chunk ∷ [])
 ChunksOf-push part chunk front [] held is = (
   record { start = part.start + length chunk.item.bytes; item = [] },
-  record {
-    joined = append-nil chunk.item.bytes
-        ∙ subst (λ t. t ++ chunk.item.bytes ≡ part.item) held is.joined;
-    is_run = is.is_run;
-    bounded = tt;
-    start = let none : length front.item ≡ 0 = ap length held in omega (arith, is.start, none);
-    after = refl;
-  },
+  grind (arith, append-nil),
   refl,
 )
 ChunksOf-push part chunk front (first ∷ others) held is =
@@ -154,24 +128,8 @@ ChunksOf-push part chunk front (first ∷ others) held is =
     let long : length front.item ≡ length first.item.bytes + length rest.item =
     ap length (sym cut.joined) ∙ length-append first.item.bytes rest.item in (
       after,
-      record {
-        joined = sym (append_assoc first.item.bytes rest.item run.bytes)
-            ∙ (ap (λ t. t ++ run.bytes) cut.joined ∙ is.joined);
-        is_run = cut.is_run;
-        bounded = border first.item run front.item rest.item cut.is_run is.is_run cut.joined
-            cut.bounded is.bounded;
-        start = cut.start ∙ is.before;
-        after = cut.after ∙ ap (λ n. n + length first.item.bytes) is.before;
-      },
-      ChunksOf-push after chunk rest others held.2 (record {
-        joined = refl;
-        is_run = is.is_run;
-        bounded = end_of (IsByteOf (not run.ascii)) first.item.bytes rest.item
-            (subst (λ t. IfSome (slice_get t (length t - 1)) (IsByteOf (not run.ascii)))
-            (sym cut.joined) is.bounded);
-        start = omega (arith, is.start, is.before, cut.start, cut.after, long);
-        before = refl;
-      }),
+      grind (arith, append_assoc, border),
+      ChunksOf-push after chunk rest others held.2 (grind (arith, end_of, not)),
     )
 
 -- ---- loops
@@ -195,8 +153,7 @@ chunks_from_back : (taken : List AsciiChunk) (part left end : WithStart (List �
 chunks_from_back [] part left end yields none = subst (λ p. p.item ≡ []) (sym yields) none.0
 chunks_from_back (chunk ∷ taken) part left end yields none =
     subst (ChunksOf part) (sym (reverse-cons (chunk_in chunk) (map chunk_in taken)))
-    (ChunksOf-push part (chunk_in chunk) yields.0 (reverse (map chunk_in taken))
-    (chunks_from_back taken yields.0 left end yields.2 none) yields.1)
+    (grind (arith, ChunksOf-push, reverse, chunks_from_back taken yields.0 left end yields.2 none))
 
 pub chunks_in_reverse : LoopsBackOverChunks
 unfolding YieldsRun

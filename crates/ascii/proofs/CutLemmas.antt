@@ -1,7 +1,6 @@
 -- Texts that begin with, end with or contain another.
-use Rattle.std.proofs.Common.{◌≡◌, ℕ, ◌+◌, ◌-◌, List, ◌++◌, length, take, drop, sym, ap, subst}
-use Rattle.std.proofs.Common.{◌∙◌, ◌≤◌, Option, None, Some, arith, is_some, length-append, refl}
-use Rattle.std.proofs.Common.{true}
+use Rattle.std.proofs.Common.{◌≡◌, ℕ, ◌+◌, ◌-◌, List, ◌++◌, length, ◌≤◌, Option, None, Some, arith}
+use Rattle.std.proofs.Common.{is_some, length-append, refl, true}
 use Rattle.std.proofs.lemmas.Bool.{false≢true}
 use native.Mathlib.Numerals.{unary_clauses}
 use Rattle.std.specs.List.{slice_range}
@@ -14,33 +13,24 @@ use Rattle.ascii.specs.Search.{ContainsText, EndsWith, IsCut, StartsWith}
 -- the start of a text that begins with `prefix`
 pub prefix_reads : (prefix text : List ℕ) → StartsWith prefix text
     → slice_range text 0 (length prefix) ≡ prefix
-prefix_reads prefix text starts =
-    simp unary_clauses (subst (λ t. take (length prefix) t ≡ prefix) starts.1
-    (take-append_seam prefix starts.0))
+prefix_reads prefix text starts = simp unary_clauses (grind (arith, take-append_seam))
 
 -- a text is its start and what follows
 pub joined_at : (n : ℕ) (text : List ℕ)
     → slice_range text 0 n ++ slice_range text n (length text) ≡ text
-joined_at n text =
-    simp unary_clauses (ap (λ t. take n text ++ t) (take_rest text n) ∙ take-append-drop n text)
+joined_at n text = grind (arith, take_rest, take-append-drop)
 
 -- the end of a text that ends with `suffix`
 pub suffix_reads : (suffix text : List ℕ) → EndsWith suffix text
     → slice_range text (length text - length suffix) (length text) ≡ suffix
 suffix_reads suffix text ends =
-    let whole : length text ≡ length ends.0 + length suffix =
-    ap length (sym ends.1) ∙ length-append ends.0 suffix in
+    let whole : length text ≡ length ends.0 + length suffix = grind (arith, length-append) in
     let start : length text - length suffix ≡ length ends.0 = omega (arith, whole) in
-    ap (λ n. slice_range text n (length text)) start
-    ∙ (take_rest text (length ends.0)
-    ∙ subst (λ t. drop (length ends.0) t ≡ suffix) ends.1 (drop-append_seam ends.0 suffix))
+    grind (arith, take_rest, drop-append_seam)
 
 -- a text is at least as long as its end
 pub suffix_fits : (suffix text : List ℕ) → EndsWith suffix text → length suffix ≤ length text
-suffix_fits suffix text ends =
-    let whole : length text ≡ length ends.0 + length suffix =
-    ap length (sym ends.1) ∙ length-append ends.0 suffix in
-    omega (arith, whole)
+suffix_fits suffix text ends = grind (arith, length-append)
 
 -- a search from the start finds a needle exactly if the text contains it
 pub found_if_contained : (text needle : List ℕ) (found : Option ℕ)
@@ -57,10 +47,7 @@ found_if_contained text needle (Some k) finds = (λ _. (k, finds.1), λ _. refl)
 -- a text is what comes before an occurrence of `needle`, the needle, and what comes after it
 around : (text needle : List ℕ) (k : ℕ) → OccursAt text needle k
     → slice_range text 0 k ++ (needle ++ slice_range text (k + length needle) (length text)) ≡ text
-around text needle k occurs = simp unary_clauses
-    (ap (λ rest. take k text ++ (needle ++ rest)) (take_rest text (k + length needle))
-    ∙ (ap (λ rest. take k text ++ rest) (sym (OccursAt-split text needle k occurs))
-    ∙ take-append-drop k text))
+around text needle k occurs = grind (arith, take_rest, OccursAt-split, take-append-drop)
 
 -- the text before a position is as long as the position says
 long_to : (text : List ℕ) (k : ℕ) → k ≤ length text → length (slice_range text 0 k) ≡ k

@@ -42,9 +42,7 @@ module _ (each : List ℕ → List ℕ) (on : ℕ) where
 
   pieces_some : (start : ℕ) (text : List ℕ)
       → piece_spans on (record { start = start; item = text }) ≢ []
-  pieces_some start text none = slice_split-some _ text (
-      let same = length-with_starts piece_size start (pieces_of on text) in
-      go (pieces_of on text) (same_none same (ap length none)))
+  pieces_some start text none = grind (arith, slice_split-some, length-with_starts, go, same_none)
     where
       same_none : {n : ℕ} → length (with_starts piece_size start (pieces_of on text)) ≡ n
           → length (with_starts piece_size start (pieces_of on text)) ≡ 0 → n ≡ 0
@@ -58,10 +56,7 @@ module _ (each : List ℕ → List ℕ) (on : ℕ) where
   items_joint : (start : ℕ) (a b : List ℕ) → items_from start (a ++ on ∷ b)
       ≡ map each_span (piece_spans on (record { start = start; item = a }))
       ++ items_from (start + (length a + 1)) b
-  items_joint start a b = ap (with_last each_span some_span) (pieces_joint _ start a on b (is_on on))
-      ∙ with_last-append each_span some_span (piece_spans on (record { start = start; item = a }))
-      (piece_spans on (record { start = start + (length a + 1); item = b }))
-      (pieces_some (start + (length a + 1)) b)
+  items_joint start a b = grind (arith, pieces_joint, is_on, with_last-append, pieces_some)
 
   -- a text that ends in the separator
   items_ended : (start : ℕ) (a : List ℕ) → items_from start (a ++ on ∷ [])
@@ -71,25 +66,17 @@ module _ (each : List ℕ → List ℕ) (on : ℕ) where
   -- one item, which a separator ends
   pub items_one : (start : ℕ) (a b : List ℕ) → HasNo on a → items_from start (a ++ on ∷ b)
       ≡ record { start = start; item = each a } ∷ items_from (start + (length a + 1)) b
-  items_one start a b free = items_joint start a b
-      ∙ ap (λ xs. map each_span xs ++ items_from (start + (length a + 1)) b)
-      (pieces_none (λ code. eqb code on) start a free)
+  items_one start a b free = grind (arith, items_joint, pieces_none, eqb)
 
   -- one item, which no separator ends
   pub items_open : (start : ℕ) (t : List ℕ) → HasNo on t → t ≢ []
       → items_from start t ≡ record { start = start; item = t } ∷ []
-  items_open start [] free some = absurd (some refl)
-  items_open start (c ∷ t) free some =
-      ap (with_last each_span some_span) (pieces_none (λ code. eqb code on) start (c ∷ t) free)
+  items_open start t free some = grind (arith, pieces_none, eqb)
 
   -- the items after a front that is empty or ends in the separator
   items_behind : (start : ℕ) (a b : List ℕ) → IsEndedBy on a
       → items_from start (a ++ b) ≡ items_from start a ++ items_from (start + length a) b
-  items_behind start a b (inl none) = rw none (ap (λ n. items_from n b) (omega arith))
-  items_behind start a b (inr some) =
-      let front = some.0 in
-      let size : length (front ++ on ∷ []) ≡ length front + 1 = length-append front (on ∷ []) in
-      rw (some.1, append_assoc, items_ended start front, size) (items_joint start front b)
+  items_behind start a b is = grind (arith, length-append, append_assoc, items_ended, items_joint)
 
   module _ (part : WithStart (List ℕ)) where
     pub ended_none : part.item ≡ [] → spans_with_last each on part ≡ []
@@ -99,15 +86,11 @@ module _ (each : List ℕ → List ℕ) (on : ℕ) where
         → IsSplitAtFirst byte part cut
         → first ≡ record { start = part.start; item = each (text_of cut.0.view) }
         → spans_with_last each on part ≡ first ∷ spans_with_last each on (part_in cut.1)
-    ended_first byte cut first byte_is found first_is =
-        let is = subst (λ b. IsSplitAtFirst b part cut) byte_is found in
-        rw (first_is, is.0.behind) (ap (items_from part.start) is.0.text
-        ∙ items_one part.start (text_of cut.0.view) (text_of cut.1.view) is.1)
+    ended_first byte cut first byte_is found first_is = grind (arith, items_one)
 
     pub ended_open : (byte : ℕ) (only : WithStart (List ℕ)) → byte ≡ on → HasNo byte part.item
         → part.item ≢ [] → only ≡ part → spans_with_last each on part ≡ only ∷ []
-    ended_open byte only byte_is free some only_is =
-        rw only_is (items_open part.start part.item (rw byte_is at free) some)
+    ended_open byte only byte_is free some only_is = grind (arith, items_open)
 
     -- the last item of a text that ends in the separator
     pub ended_last : (byte : ℕ) (front : Cursor) (cut : Cursor × Cursor) (last : WithStart (List ℕ))
@@ -130,37 +113,20 @@ module _ (each : List ℕ → List ℕ) (on : ℕ) where
         → IsSplitAfterLast byte part cut → text_of cut.1.view ≢ []
         → last ≡ part_in cut.1
         → spans_with_last each on part ≡ spans_with_last each on (part_in cut.0) ++ last ∷ []
-    open_last byte cut last byte_is found some last_is =
-        let is = subst (λ b. IsSplitAfterLast b part cut) byte_is found in
-        let a = text_of cut.0.view in
-        let b = text_of cut.1.view in
-        rw (last_is, is.before, is.behind) (ap (items_from part.start) is.text
-        ∙ (items_behind part.start a b is.whole
-        ∙ ap (λ xs. items_from part.start a ++ xs) (items_open (part.start + length a) b is.free some)))
+    open_last byte cut last byte_is found some last_is = grind (arith, items_behind, items_open)
 
 -- what follows the last separator is not empty if the text ends in another code
 pub last_some : (part : WithStart (List ℕ)) (byte : ℕ) (cut : Cursor × Cursor) (front : List ℕ) (c : ℕ)
     → part.item ≡ front ++ c ∷ [] → c ≢ byte → IsSplitAfterLast byte part cut
     → text_of cut.1.view ≢ []
 last_some part byte cut front c ends other found none =
-    let a = text_of cut.0.view in
-    let same : front ++ c ∷ [] ≡ a =
-    sym ends ∙ (found.text ∙ (ap (λ b. a ++ b) none ∙ append-nil a)) in
-    elim found.whole [
-      | inl empty ↦ append-some front (c ∷ []) (λ is. cc) (same ∙ empty)
-      | inr some ↦ other (same_from_push front some.0 c byte (same ∙ some.1)).1
-    ]
+    grind (arith, append-nil, append-some, same_from_push)
 
 -- ---- items with the separator that ends them
 
 -- an item that ends in any one code
 pub ends_at_most : (on c : ℕ) (piece : List ℕ) → HasNo on piece → EndsAtMost on (piece ++ c ∷ [])
-ends_at_most on c piece free =
-    let size : length (piece ++ c ∷ []) - 1 ≡ length piece = omega (arith, length_push piece c) in
-    record {
-      some = append-some piece (c ∷ []) (λ is. cc);
-      free = rw (size, take_at piece (c ∷ []) (length piece) refl) (absent-from_Free on piece free);
-    }
+ends_at_most on c piece free = grind (arith, length_push, append-some, take_at, absent-from_Free)
 
 -- the text up to and with the first separator
 pub through_first : (on byte : ℕ) (part : WithStart (List ℕ)) (cut : Cursor × Cursor) → byte ≡ on
@@ -170,20 +136,14 @@ through_first on byte part cut byte_is found =
     let a = text_of cut.0.view in
     let b = text_of cut.1.view in
     let split : part.item ≡ (a ++ byte ∷ []) ++ b = found.0.text ∙ sym (append_assoc a (byte ∷ []) b) in
-    ap (take (length a + 1)) split
-    ∙ (take_at (a ++ byte ∷ []) b (length a + 1) (length_push a byte)
-    ∙ ap (λ c. a ++ c ∷ []) byte_is)
+    grind (arith, take_at, length_push)
 
 module _ (on : ℕ) (part : WithStart (List ℕ)) (byte c : ℕ) (front : Cursor) (cut : Cursor × Cursor)
   where
     -- what follows the last separator before the last code
     pub from_last : part.item ≡ text_of front.view ++ c ∷ [] → IsSplitAfterLast byte (part_in front) cut
         → drop (length (text_of cut.0.view)) part.item ≡ text_of cut.1.view ++ c ∷ []
-    from_last ends found =
-        let a = text_of cut.0.view in
-        let b = text_of cut.1.view in
-        ap (drop (length a)) (ends ∙ (ap (λ xs. xs ++ c ∷ []) found.text ∙ append_assoc a b (c ∷ [])))
-        ∙ drop-append_seam a (b ++ c ∷ [])
+    from_last ends found = grind (arith, append_assoc, drop-append_seam)
 
     -- the last item of a text that is not empty
     pub inclusive_last : (last : WithStart (List ℕ)) → byte ≡ on
@@ -202,26 +162,17 @@ module _ (on : ℕ) (part : WithStart (List ℕ)) (byte c : ℕ) (front : Cursor
         let at = part.start + length a in
         let one : items_from each on at (b ++ c ∷ [])
         ≡ record { start = at; item = b ++ c ∷ [] } ∷ [] = elim (cases_Bool (eqb c on)) [
-          | inl same ↦ let c_is = eqb-true c on same in
-              rw c_is (items_one each on at b [] is.free)
+          | inl same ↦ grind (arith, eqb-true, items_one)
           | inr other ↦ items_open each on at (b ++ c ∷ [])
               (All-push (λ code. eqb code on ≡ false) b c is.free other)
               (append-some b (c ∷ []) (λ none. cc))
         ] in
-        rw (last_is, is.before, starts) (ap (items_from each on part.start) (ends
-        ∙ (ap (λ xs. xs ++ c ∷ []) is.text ∙ append_assoc a b (c ∷ [])))
-        ∙ (items_behind each on part.start a (b ++ c ∷ []) is.whole
-        ∙ ap (λ xs. items_from each on part.start a ++ xs) one))
+        grind (arith, append_assoc, items_behind, one)
 
 -- ---- how many there are, and the items without their starts
 
 some_span-item : (span : WithStart (List ℕ)) → items_of (some_span span) ≡ some_piece span.item
-some_span-item span = one span.start span.item
-  where
-    one : (start : ℕ) (piece : List ℕ)
-        → items_of (some_span (record { start = start; item = piece })) ≡ some_piece piece
-    one start [] = refl
-    one start (c ∷ piece) = refl
+some_span-item span = grind arith
 
 module _ (each : List ℕ → List ℕ) where
   with_last-items : (spans : List (WithStart (List ℕ)))
@@ -229,18 +180,15 @@ module _ (each : List ℕ → List ℕ) where
       ≡ with_last each some_piece (items_of spans)
   with_last-items [] = refl
   with_last-items (span ∷ []) = some_span-item span
-  with_last-items (span ∷ next ∷ spans) =
-      ap (λ others. each span.item ∷ others) (with_last-items (next ∷ spans))
+  with_last-items (span ∷ next ∷ spans) = grind (arith, with_last-items (next ∷ spans))
 
   pub items_of_ended : (on start : ℕ) (t : List ℕ)
       → items_of (spans_with_last each on (record { start = start; item = t }))
       ≡ with_last each some_piece (pieces_of on t)
-  items_of_ended on start t = with_last-items (piece_spans on (record { start = start; item = t }))
-      ∙ ap (with_last each some_piece) (items-with_starts piece_size start (pieces_of on t))
+  items_of_ended on start t = grind (arith, with_last-items, items-with_starts)
 
   some_piece-count : (piece : List ℕ) → length (some_piece piece) ≤ 1
-  some_piece-count [] = omega arith
-  some_piece-count (c ∷ piece) = omega arith
+  some_piece-count piece = grind arith
 
   with_last-count : (pieces : List (List ℕ))
       → length (with_last each some_piece pieces) ≤ length pieces
@@ -254,24 +202,14 @@ module _ (each : List ℕ → List ℕ) where
 
   pub ended_spans_fit : (on start : ℕ) (t : List ℕ)
       → length (spans_with_last each on (record { start = start; item = t })) ≤ length t + 1
-  ended_spans_fit on start t =
-      let spans = spans_with_last each on (record { start = start; item = t }) in omega (
-        arith,
-        length-map spans (λ span. span.item),
-        ap length (items_of_ended on start t),
-        ended_fit on t,
-      )
+  ended_spans_fit on start t = grind (arith, length-map, items_of_ended on start t, ended_fit on t)
 
   -- a part with no items is empty
   with_last-none : (on : ℕ) (pieces : List (List ℕ)) → with_last each some_piece pieces ≡ []
       → join_with_byte on pieces ≡ []
   with_last-none on [] none = refl
-  with_last-none on ([] ∷ []) none = refl
-  with_last-none on ((c ∷ piece) ∷ []) none = cc
-  with_last-none on (piece ∷ next ∷ pieces) none = cc
+  with_last-none on pieces none = grind arith
 
   pub ended_empty : (on : ℕ) (part : WithStart (List ℕ)) → spans_with_last each on part ≡ []
       → part.item ≡ []
-  ended_empty on part none = sym ((Pieces-pieces_of part.item on).joined)
-      ∙ with_last-none on (pieces_of on part.item)
-      (sym (items_of_ended on part.start part.item) ∙ ap items_of none)
+  ended_empty on part none = grind (arith, Pieces-pieces_of, with_last-none, items_of_ended)

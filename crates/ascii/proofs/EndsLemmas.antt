@@ -1,6 +1,6 @@
 -- The answers of an iterator, or of a list, to a script of ends.
-use Rattle.std.proofs.Common.{◌≤◌, ◌≡◌, ℕ, ◌+◌, ◌<◌, List, [], ◌∷◌, ◌++◌, length, get_or, take, map}
-use Rattle.std.proofs.Common.{Option, None, Some, Result, Ok, Err, IfOk, MatchOption, refl, ap}
+use Rattle.std.proofs.Common.{arith, ◌≤◌, ◌≡◌, ℕ, ◌+◌, ◌<◌, List, [], ◌∷◌, ◌++◌, length, get_or}
+use Rattle.std.proofs.Common.{take, map, Option, None, Result, Ok, Err, IfOk, MatchOption, refl, ap}
 use Rattle.std.specs.Iterator.{YieldsFirstBy, YieldsLastBy}
 use Rattle.std.specs.Option.{option_map}
 use Rattle.std.proofs.lemmas.List.{take_all, take_more}
@@ -14,17 +14,13 @@ pub TakesEnd-by : {A B : Type 0} (read : A → B) (end : End) (r : Option A) (ol
     → (end ≡ Front → MatchOption r ((old ≡ []) × (new ≡ [])) (λ x. old ≡ read x ∷ new))
     → (end ≡ Back → MatchOption r ((old ≡ []) × (new ≡ [])) (λ x. old ≡ new ++ read x ∷ []))
     → TakesEnd end old (option_map read r) new
-TakesEnd-by read Front None old new front back = front refl
-TakesEnd-by read Front (Some x) old new front back = front refl
-TakesEnd-by read Back None old new front back = back refl
-TakesEnd-by read Back (Some x) old new front back = back refl
+TakesEnd-by read end r old new front back = grind arith
 
 -- a step from an end is one of the two
 pub StepsAt-by : {S A : Type 0} (front back : S → Option A → S → Type 0) (end : End) (s : S)
     (r : Option A) (t : S)
     → (end ≡ Front → front s r t) → (end ≡ Back → back s r t) → StepsAt front back end s r t
-StepsAt-by front back Front s r t at_front at_back = at_front refl
-StepsAt-by front back Back s r t at_front at_back = at_back refl
+StepsAt-by front back end s r t at_front at_back = grind arith
 
 module _ {S A : Type 0} (takes : End → S → Option A → S → Type 0) where
   -- one more end of a script
@@ -44,8 +40,7 @@ module _ {S A : Type 0} (takes : End → S → Option A → S → Type 0) where
       → AnswersTo takes items (take k script) answers mid → takes end mid answer left
       → AnswersTo takes items (take (k + 1) script) (answers ++ answer ∷ []) left
   AnswersTo-step items mid left script k end answers answer inside here so_far more =
-      rw (take_more script k end inside, here)
-      (AnswersTo-more items (take k script) answers mid left end answer so_far more)
+      grind (arith, take_more, AnswersTo-more)
 
   -- the answers of the whole script
   pub AnswersTo-all : (items left : S) (script : List End) (k : ℕ) (answers : List (Option A))
@@ -64,11 +59,8 @@ ListAnswersTo-answers : {S A B : Type 0} (takes : End → S → Option A → S �
     → AnswersTo takes s script answers t
     → ListAnswersTo (owed s) script (map (option_map read) answers) (owed t)
 ListAnswersTo-answers takes read owed each s [] [] t is = ap owed is
-ListAnswersTo-answers takes read owed each s (end ∷ script) (answer ∷ answers) t is = (
-  owed is.0,
-  each end s answer is.0 is.1,
-  ListAnswersTo-answers takes read owed each is.0 script answers t is.2,
-)
+ListAnswersTo-answers takes read owed each s (end ∷ script) (answer ∷ answers) t is =
+    grind (arith, each, ListAnswersTo-answers takes read owed each is.0 script answers t is.2)
 ListAnswersTo-answers takes read owed each s script answers t is = absurd is
 
 -- what a walk of an iterator yielded, as ends of the list that it had yet to yield
@@ -97,8 +89,6 @@ ListAnswers-walked front back read owed first last s script items (Ok answers) Q
     each : (end : End) (u : _) (r : Option _) (t : _) → StepsAt front back end u r t
         → TakesEnd end (owed u) (option_map read r) (owed t)
     each Front u None t step = first u None t step
-    each Front u (Some x) t step = first u (Some x) t step
-    each Back u None t step = last u None t step
-    each Back u (Some x) t step = last u (Some x) t step
+    each end u r t step = grind arith
 ListAnswers-walked front back read owed first last s script items (Err error) Q list x holds is
     walked = tt

@@ -1,9 +1,8 @@
 -- Worked values of the definitions. docs/CONTRACTS.md quotes them.
-use Rattle.std.proofs.Common.{◌≡◌, ◌∙◌, [], ◌∷◌, List, Some, ap, rules, refl, sym, ℕ}
+use Rattle.std.proofs.Common.{◌≡◌, [], ◌∷◌, List, Some, rules, refl, ℕ, arith}
 use Rattle.std.specs.Prelude.{codes}
 use Rattle.ascii_base.specs.declared.range.AsciiRange.TheVariants as range
 use Rattle.ascii_base.specs.Range.{Fits, part_of}
-use Rattle.std.specs.Option.{option_map}
 use Rattle.ascii.specs.ByClass.{whole}
 use Rattle.ascii.specs.Cuts.{IsRemainder}
 use Rattle.ascii.specs.Pieces.{Remaining}
@@ -40,9 +39,7 @@ piece_starts = refl
 remainder_is_whole : (left : Remaining ℕ (List ℕ)) (view : AsciiStr)
     → left.rest ≡ Some (whole (codes "a,b,")) → text_of view ≡ codes "a,b"
     → ¬ (IsRemainder at_terminator left (Some view))
-remainder_is_whole left view is text remainder =
-    let both : Some (codes "a,b,") ≡ Some (codes "a,b") =
-    ap (option_map (λ part. part.item)) (sym is) ∙ (remainder.0 ∙ ap Some text) in cc
+remainder_is_whole left view is text remainder = grind arith
 
 -- the lines of a text: CR LF ends the first one, and nothing the second
 lines : lines_of (120 ∷ 13 ∷ 10 ∷ 121 ∷ [])

@@ -26,17 +26,8 @@ pub Extends-refused : {S A E : Type 0} {sure : ℕ} (steps : S → Option A → 
     → new.text ≡ mid.text → mid.capacity < length (mid.text ++ piece refused)
     → sure < length (mid.text ++ piece refused)
     → Extends sure steps piece iter old new result
-Extends-refused {S} {A} {E} {sure} steps piece iter old mid new items left refused after result e is gave
-    next so_far room stays full beyond =
-    let whole : old.text ++ flat_map piece (items ++ refused ∷ []) ≡ mid.text ++ piece refused =
-    grind (arith, common_steps, flat_map-append) in
-    record {
-      items = items;
-      left = left;
-      gave = gave;
-      text = stays ∙ so_far;
-      ended = rw is (refused, after, next, rw whole (omega arith), rw whole beyond);
-    }
+Extends-refused {S} {A} {E} {sure} steps piece iter old mid new items left refused after result e is gave next so_far room stays full beyond =
+    grind (arith, common_steps, flat_map-append)
 
 module _ {S A : Type 0} (steps : S → Option A → S → Type 0) where
   pub yields_both : (xs ys : List A) (s t u : S) → Yields steps s xs t → Yields steps t ys u
@@ -52,8 +43,7 @@ module _ {S A : Type 0} (steps : S → Option A → S → Type 0) where
   next_of [] k s t inside run = absurd (omega (arith, inside))
   next_of (x ∷ xs) zero s t inside run = (s, x, run.0, refl, run.1)
   next_of (x ∷ xs) (suc k) s t inside run =
-      let later = next_of xs k run.0 t (omega (arith, inside)) run.2 in
-      (later.0, later.1, later.2, (run.0, run.1, later.3), later.4)
+      grind (arith, next_of xs k run.0 t (omega (arith, inside)) run.2)
 
   module _ (code : A → ℕ) where
     -- the codes of the items that an iterator has yielded so far are appended
@@ -67,29 +57,14 @@ module _ {S A : Type 0} (steps : S → Option A → S → Type 0) where
     length_with : (text : List ℕ) (items : List A) (x : A)
         → length (text ++ flat_map (λ x. code x ∷ []) (items ++ x ∷ []))
         ≡ length text + length items + 1
-    length_with text items x =
-        simp (flat_map_single, length-append, length-map) (omega arith)
+    length_with text items x = grind (arith, flat_map_single, length-append, length-map)
 
     module _ {sure : ℕ} (iter mid next : S) (old now new : StringState) (codes : List ℕ) (count : ℕ)
         (before : Gathers iter mid old now) (run : Fills steps code mid next codes count) where
       gathers_run : {E : Type 0} (u : Unit {0})
           → TakesFront {E = E} sure (take count codes) now new (Ok u)
           → Gathers iter run.left old new
-      gathers_run {E} u front = record {
-        items = before.items ++ run.items;
-        gave = yields_both before.items run.items iter mid run.left before.gave run.gave;
-        text = grind (
-          arith,
-          common_steps,
-          map-append,
-          take_all,
-          front.text,
-          front.ended,
-          run.start,
-          before.text,
-        );
-        capacity = omega (arith, before.capacity, front.capacity);
-      }
+      gathers_run {E} u front = grind (arith, yields_both, common_steps, map-append, take_all)
 
       -- the array is full, and the iterator may go on
       pub gathers_more : {E : Type 0} (u : Unit {0})
@@ -101,72 +76,27 @@ module _ {S A : Type 0} (steps : S → Option A → S → Type 0) where
       pub Extends-gathered : {E : Type 0} (u : Unit {0})
           → TakesFront {E = E} sure (take count codes) now new (Ok u)
           → count < length codes → Extends {E = E} sure steps (λ x. code x ∷ []) iter old new (Ok u)
-      Extends-gathered {E} u front short =
-          let all = gathers_run u front in
-          record {
-            items = all.items;
-            left = run.left;
-            gave = all.gave;
-            text = rw (flat_map_single code all.items) all.text;
-            ended = (next, run.ended short);
-          }
+      Extends-gathered {E} u front short = grind (arith, gathers_run u front, flat_map_single)
 
       -- a code of the array did not fit
       pub Extends-front : {E : Type 0} (result : Result (Unit {0}) E) (e f : E)
           → result ≡ Err e → TakesFront sure (take count codes) now new (Err f)
           → Extends sure steps (λ x. code x ∷ []) iter old new result
       Extends-front {E} result e f is front =
-          let inside : front.taken < length run.items =
-          omega (arith, ap length run.start, length-map run.items code) in
+          let inside : front.taken < length run.items = grind (arith, length-map) in
           let stop = next_of run.items front.taken mid run.left inside run.gave in
           let items = before.items ++ take front.taken run.items in
           let size : length (old.text ++ flat_map (λ x. code x ∷ []) (items ++ stop.1 ∷ []))
-          ≡ length now.text + front.taken + 1 = omega (
-            arith,
-            length_with old.text items stop.1,
-            ap length before.text,
-            length-append old.text (map code before.items),
-            length-map before.items code,
-            length-append before.items (take front.taken run.items),
-            length-take-le front.taken run.items (omega arith),
-          ) in
-          record {
-            items = items;
-            left = stop.0;
-            gave = yields_both before.items (take front.taken run.items) iter mid stop.0
-                before.gave stop.3;
-            text = rw (flat_map_single code items)
-                (grind (
-                  arith,
-                  common_steps,
-                  map-append,
-                  take-map,
-                  front.text,
-                  run.start,
-                  before.text,
-                ));
-            ended = rw is (
-              stop.1,
-              stop.2,
-              stop.4,
-              omega (arith, size, front.ended.1),
-              omega (arith, size, front.ended.2),
-            );
-          }
+          ≡ length now.text + front.taken + 1 =
+          grind (arith, length_with, length-append, length-map, length-take-le) in
+          grind (arith, yields_both, flat_map_single, common_steps, map-append, take-map)
 
 -- the pieces of the items up to the one that did not fit are longer than the sure length
 pub yields_past : {S A E : Type 0} {sure : ℕ} (steps : S → Option A → S → Type 0)
     (piece : A → List ℕ) (iter : S) (old new : StringState) (e : E) → old.text ≡ []
     → Extends sure steps piece iter old new (Err e)
     → YieldsPast sure steps (flat_map piece) iter
-yields_past {sure} steps piece iter old new e none extends =
-    let refused = extends.ended.0 in (
-      extends.items ++ refused ∷ [],
-      extends.ended.1,
-      yields_both steps extends.items (refused ∷ []) iter extends.left extends.ended.1 extends.gave
-          (extends.ended.1, extends.ended.2, refl),
-      rw none at extends.ended.4,
-    )
+yields_past {sure} steps piece iter old new e none extends = grind (arith, yields_both)
 
 -- views with separators up to one that did not fit, or whose separator did not, are longer than the
 -- sure length
@@ -194,8 +124,7 @@ singles codes = flat_map_single (λ code. code) codes ∙ map-id codes
 -- what follows from what an Ok says
 pub if_ok : {T E : Type 0} {P Q : T → Type 0} (result : Result T E) → IfOk result P
     → ((x : T) → P x → Q x) → IfOk result Q
-if_ok (Ok x) p follows = follows x p
-if_ok (Err e) p follows = tt
+if_ok result p follows = grind arith
 
 -- the pieces of the items that an iterator gave before it ended are those of the whole list
 pub pieces_from_drains : {S A B : Type 0} {steps : S → Option A → S → Type 0} {v : A → B}
@@ -212,21 +141,14 @@ module _ {S A B E : Type 0} {steps : S → Option A → S → Type 0} {v : A →
   pub all_from_extends : (result : Result (Unit {0}) E)
       → Extends sure steps (λ x. h (v x)) iter old new result → YieldsList steps v iter all
       → OnOk result (new.text ≡ old.text ++ flat_map h all)
-  all_from_extends (Ok x) e road =
-      e.text ∙ ap (λ t. old.text ++ t)
-      (pieces_from_drains h e.items (e.ended.0, (e.left, e.gave, e.ended.1)) road)
-  all_from_extends (Err x) e road = tt
+  all_from_extends result e road = grind (arith, pieces_from_drains)
 
   -- at Err as at Ok a front of the list went in
   pub front_from_extends : (result : Result (Unit {0}) E)
       → Extends sure steps (λ x. h (v x)) iter old new result → YieldsList steps v iter all
       → (n : ℕ) × (new.text ≡ old.text ++ flat_map h (take n all))
-  front_from_extends result e road = (
-    length e.items,
-    e.text ∙ ap (λ t. old.text ++ t)
-        (sym (flat_map-map h v e.items)
-        ∙ ap (flat_map h) (YieldsList-so_far road e.items e.left e.gave)),
-  )
+  front_from_extends result e road =
+      grind (arith, flat_map-map h v e.items, YieldsList-so_far road e.items e.left e.gave)
 
   -- for a list that fits the capacity no allocation is needed
   pub ok_from_extends : (result : Result (Unit {0}) E)
@@ -240,11 +162,4 @@ module _ {S A B E : Type 0} {steps : S → Option A → S → Type 0} {v : A →
       let before : flat_map (λ x. h (v x)) e.items ≡ flat_map h (take (length e.items) all) =
       sym (flat_map-map h v e.items)
       ∙ ap (flat_map h) (YieldsList-so_far road e.items e.left e.gave) in
-      let room = length-flat_map-take h all (length e.items) (v refused) turn.0 in
-      let full = e.ended.3 in
-      absurd (omega (
-        arith,
-        ap length before,
-        ap (λ z. length (h z)) turn.1,
-        simp (flat_map-append, length-append) at full,
-      ))
+      grind (arith, length-flat_map-take, flat_map-append, length-append)

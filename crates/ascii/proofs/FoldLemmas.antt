@@ -1,6 +1,6 @@
 -- Texts that begin or end with another when the case of letters is ignored.
-use Rattle.std.proofs.Common.{◌≡◌, ℕ, ◌+◌, ◌≤◌, List, ◌++◌, length, take, drop, sym, ap, subst}
-use Rattle.std.proofs.Common.{◌∙◌, arith, length-append}
+use Rattle.std.proofs.Common.{◌≡◌, ℕ, ◌≤◌, List, length, take, drop, sym, ap, ◌∙◌, arith}
+use Rattle.std.proofs.Common.{length-append}
 use Rattle.std.specs.Prelude.{map}
 use Rattle.std.specs.List.{slice_range}
 use Rattle.std.proofs.lemmas.List.{length-map, map-append, take-append-drop, take-map}
@@ -11,18 +11,13 @@ use Rattle.ascii.proofs.CutLemmas.{joined_at, prefix_reads}
 
 -- texts that are one when the case is ignored are as long as each other
 as_long : (a b : List ℕ) → map lower_image a ≡ map lower_image b → length a ≡ length b
-as_long a b same =
-    omega (arith, length-map a lower_image, length-map b lower_image, ap length same)
+as_long a b same = grind (arith, length-map)
 
 module _ (prefix text : List ℕ) where
   -- a prefix is no longer than its text
   pub folded_fits : IgnoringCase (λ start. StartsWith start text) prefix
       → length prefix ≤ length text
-  folded_fits starts =
-      let parts : length text ≡ length starts.other + length starts.is.0 =
-      ap length (sym starts.is.1) ∙ length-append starts.other starts.is.0 in
-      let size = as_long starts.other prefix starts.same in
-      omega (arith, parts, size)
+  folded_fits starts = grind (arith, length-append, as_long)
 
   -- the start of a text that begins with `prefix`
   pub folded_reads : IgnoringCase (λ start. StartsWith start text) prefix
@@ -35,8 +30,7 @@ module _ (prefix text : List ℕ) where
 pub folded_rest : (n : ℕ) (prefix text : List ℕ)
     → map lower_image (slice_range text 0 n) ≡ map lower_image prefix
     → IgnoringCase (λ start. IsPrefix start text (slice_range text n (length text))) prefix
-folded_rest n prefix text same =
-    record { other = slice_range text 0 n; same = same; is = joined_at n text }
+folded_rest n prefix text same = grind (arith, joined_at)
 
 -- ---- the two texts in lower case begin so exactly if the texts do when the case is ignored
 
@@ -45,18 +39,14 @@ module _ (prefix text : List ℕ) where
       → StartsWith (map lower_image prefix) (map lower_image text)
   lower_starts starts = (
     map lower_image starts.is.0,
-    ap (λ start. start ++ map lower_image starts.is.0) (sym starts.same)
-        ∙ (sym (map-append lower_image starts.other starts.is.0)
-        ∙ ap (map lower_image) starts.is.1),
+    grind (arith, map-append),
   )
 
   pub starts_from_lower : StartsWith (map lower_image prefix) (map lower_image text)
       → IgnoringCase (λ start. StartsWith start text) prefix
   starts_from_lower starts =
       let reads : take (length prefix) (map lower_image text) ≡ map lower_image prefix =
-      ap (λ n. take n (map lower_image text)) (sym (length-map prefix lower_image))
-      ∙ subst (λ t. take (length (map lower_image prefix)) t ≡ map lower_image prefix) starts.1
-      (take-append_seam (map lower_image prefix) starts.0) in
+      grind (arith, length-map, take-append_seam) in
       record {
         other = take (length prefix) text;
         same = sym (take-map lower_image (length prefix) text) ∙ reads;

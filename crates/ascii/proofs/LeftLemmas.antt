@@ -1,6 +1,7 @@
 -- What a cut leaves of a part.
-use Rattle.std.proofs.Common.{◌≡◌, ℕ, ◌+◌, ◌-◌, ◌≤◌, List, [], ◌∷◌, ◌++◌, length, take, drop, sym, ap, ◌∙◌}
-use Rattle.std.proofs.Common.{append_assoc, arith, length-append, length-take-le, refl, subst, None, Option, Some}
+use Rattle.std.proofs.Common.{◌≡◌, ℕ, ◌+◌, ◌-◌, ◌≤◌, List, [], ◌∷◌, ◌++◌, length, take, drop, sym}
+use Rattle.std.proofs.Common.{ap, ◌∙◌, append_assoc, arith, length-append, length-take-le, subst}
+use Rattle.std.proofs.Common.{Option, Some}
 use Rattle.std.proofs.Math.Seq.{drop-append_seam, take-append_seam}
 use Rattle.std.proofs.lemmas.List.{get_or_push, length_push, take-append-drop}
 use Rattle.ascii.specs.declared.iter.cursor.Cursor.{Cursor}
@@ -13,8 +14,8 @@ use Rattle.ascii.specs.declared.iter.spans.SplitSpan.{SplitSpan}
 use Rattle.ascii.specs.Cutting.{Cutting, IsLawful, left_of}
 use Rattle.ascii.specs.Pieces.{Remaining}
 use Rattle.ascii.specs.Placed.{ArePlaced, IsPlaced}
-use Rattle.ascii.specs.Spans.{items_of, piece_in}
-use Rattle.ascii.specs.Steps.{CutsOff, Side, StepsSpan, StepsText}
+use Rattle.ascii.specs.Spans.{items_of}
+use Rattle.ascii.specs.Steps.{Side, StepsSpan, StepsText}
 
 module _ (gap : ℕ) (part item : WithStart (List ℕ)) where
   pub after_text : (tail : WithStart (List ℕ)) (front : List ℕ) → part.item ≡ front ++ tail.item
@@ -24,24 +25,14 @@ module _ (gap : ℕ) (part item : WithStart (List ℕ)) where
       let size : length part.item ≡ length front + length tail.item =
       ap length joined ∙ length-append front tail.item in
       let long : tail.start - part.start ≡ length front = omega (arith, start) in
-      record {
-        start = gapped;
-        text = sym (ap (drop (tail.start - part.start)) joined
-            ∙ (ap (λ n. drop n (front ++ tail.item)) long ∙ drop-append_seam front tail.item));
-        end = omega (arith, size, start);
-      }
+      grind (arith, drop-append_seam)
 
   pub before_text : (front : WithStart (List ℕ)) (behind : List ℕ)
       → part.item ≡ front.item ++ behind → front.start ≡ part.start
       → part_end front + gap ≡ item.start → IsBefore gap part item front
   before_text front behind joined start gapped =
       let long : part_end front - part.start ≡ length front.item = omega (arith, start) in
-      record {
-        start = start;
-        text = sym (ap (take (part_end front - part.start)) joined
-            ∙ (ap (λ n. take n (front.item ++ behind)) long ∙ take-append_seam front.item behind));
-        end = gapped;
-      }
+      grind (arith, take-append_seam)
 
   -- a part that is left from a place on, or up to a place
   pub after_place : (tail : WithStart (List ℕ)) (place : ℕ) → place ≤ length part.item
@@ -49,19 +40,13 @@ module _ (gap : ℕ) (part item : WithStart (List ℕ)) where
       → part_end item + gap ≡ part.start + place → IsAfter gap part item tail
   after_place tail place inside start text gapped =
       let size : length (take place part.item) ≡ place = length-take-le place part.item inside in
-      after_text tail (take place part.item)
-      (sym (take-append-drop place part.item) ∙ ap (λ t. take place part.item ++ t) (sym text))
-      (omega (arith, start, size)) (omega (arith, start, gapped))
+      grind (arith, after_text, take-append-drop place part.item)
 
   pub before_place : (front : WithStart (List ℕ)) (place : ℕ) → place ≤ length part.item
       → front.start ≡ part.start → front.item ≡ take place part.item
       → part.start + place + gap ≡ item.start → IsBefore gap part item front
   before_place front place inside start text gapped =
-      let size : length front.item ≡ place =
-      ap length text ∙ length-take-le place part.item inside in
-      before_text front (drop place part.item)
-      (sym (take-append-drop place part.item) ∙ ap (λ t. t ++ drop place part.item) (sym text))
-      start (omega (arith, start, size, gapped))
+      grind (arith, length-take-le, before_text, take-append-drop)
 
 -- what a cut at one code leaves
 module _ (on : ℕ) (part item : WithStart (List ℕ)) (cut : Cursor × Cursor) (is : IsSplitAt on part cut) where
@@ -96,21 +81,13 @@ texts_left left = record { on = left.on; items = items_of left.items; rest = lef
 with_witness : (A : WithStart (List ℕ) → WithStart (List ℕ) → Type 0) (span : WithStart (List ℕ))
     (rest : Option (WithStart (List ℕ))) → IsSomeAnd rest (λ part. A part span)
     → IsSomeAnd rest (λ part. (one : WithStart (List ℕ)) × (one.item ≡ span.item) × A part one)
-with_witness A span None is = is
-with_witness A span (Some part) is = (span, refl, is)
+with_witness A span rest is = grind arith
 
 module _ {C : Type 0} (side : Side) (cuts : C → Cutting) (old new : Remaining C (WithStart (List ℕ)))
     (span : SplitSpan) where
   pub text_step : StepsSpan side cuts old (Some span) new
       → StepsText side cuts (texts_left old) (Some span.text) (texts_left new)
-  text_step is = (
-    is.0,
-    (
-      is.1.0,
-      with_witness
-          (λ part one. CutsOff side (cuts old.on) part one new.rest) (piece_in span) old.rest is.1.2,
-    ),
-  )
+  text_step is = grind (arith, with_witness)
 
 -- an item that was cut off is in the part
 module _ (cut : Cutting) (laws : IsLawful cut) (part span : WithStart (List ℕ))
@@ -122,12 +99,9 @@ module _ (cut : Cutting) (laws : IsLawful cut) (part span : WithStart (List ℕ)
   pub last_placed : cut.spans part ≡ others ++ span ∷ [] → IsPlaced part.start part.item span
   last_placed is =
       let all = subst (ArePlaced part.start part.item) is (laws.placed part) in
-      subst (IsPlaced part.start part.item) (get_or_push others span span (length others) refl)
-      (all (length others) span (omega (arith, length_push others span)))
+      grind (arith, get_or_push, length_push)
 
 pub placed_left : (cut : Cutting) → IsLawful cut → (rest : Option (WithStart (List ℕ)))
     (items : List (WithStart (List ℕ))) → items ≡ left_of cut.spans rest
     → IfSome rest (λ part. ArePlaced part.start part.item items)
-placed_left cut laws None items is = tt
-placed_left cut laws (Some part) items is =
-    subst (ArePlaced part.start part.item) (sym is) (laws.placed part)
+placed_left cut laws rest items is = grind arith

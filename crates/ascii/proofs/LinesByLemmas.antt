@@ -1,9 +1,9 @@
 -- The lines of a text by each kind of ending, and the line of some bytes.
 use Rattle.std.proofs.Common.{◌≡◌, ◌≢◌, ℕ, zero, suc, ◌+◌, ◌-◌, ◌<◌, List, [], ◌∷◌, ◌++◌, length}
-use Rattle.std.proofs.Common.{◌≤◌, ◌↔◌, length-append}
+use Rattle.std.proofs.Common.{◌≤◌, ◌↔◌, length-append, get_or, take, refl, sym, ap, subst, ◌∙◌}
+use Rattle.std.proofs.Common.{arith, inl, inr, append-nil}
 use Rattle.std.proofs.Math.ListN.{get_or-append}
 use Rattle.std.proofs.lemmas.Grind.{common_steps}
-use Rattle.std.proofs.Common.{get_or, take, refl, sym, ap, subst, ◌∙◌, arith, inl, inr, append-nil}
 use Rattle.std.specs.List.{All, Contains, flat_map}
 use Rattle.std.proofs.lemmas.List.{get_or_default}
 use Rattle.std.proofs.lemmas.Bool.{cases_eq, cases_lt}
@@ -11,28 +11,20 @@ use Rattle.std.proofs.lemmas.List.Elements.{All-cons, All-nil, All-tail}
 use Rattle.ascii.specs.declared.iter.spans.Ending.{Ending}
 use Rattle.ascii.specs.declared.iter.spans.Ending.TheVariants as ending
 use Rattle.ascii.specs.Found.{line_spans}
-use Rattle.ascii.specs.Lines.{Line, MayFollow, ending_text, line_text}
-use Rattle.ascii.specs.Spans.{WithStart, items_of, line_size, with_starts}
+use Rattle.ascii.specs.Lines.{Line, MayFollow, ending_text, line_text, IsBody, IsCrLfAt, MayEnd}
+use Rattle.ascii.specs.Lines.{LinesEndedBy}
+use Rattle.ascii.specs.Spans.{WithStart, items_of, line_size, with_starts, LineSpansEndedBy}
 use Rattle.ascii.proofs.LinesLemmas.{LinesEndedBy-cons, LinesEndedBy-nil}
 use Rattle.ascii_base.proofs.ListLemmas.{front_is}
 use Rattle.ascii.proofs.SpansLemmas.{items-with_starts, line_spans_found}
 use Rattle.ascii.specs.declared.iter.spans.Endings.{Endings}
 use Rattle.ascii.specs.declared.iter.spans.Endings.TheVariants.{Any, CrLf, CrLfStrict}
 use Rattle.ascii.specs.Endings.{FreeUpTo, IsOneLine, any_text}
-use Rattle.ascii.specs.Lines.{IsBody, IsCrLfAt, MayEnd}
-use Rattle.ascii.specs.Spans.{LineSpansEndedBy}
-use Rattle.ascii.specs.Lines.{LinesEndedBy}
 
 -- an ending that may follow a body by a kind may follow it
 pub MayFollow-ended : (kind : Endings) (end : Ending) (body : List ℕ) → MayEnd kind end body
     → MayFollow end body
-MayFollow-ended Any end body may = may
-MayFollow-ended CrLf ending.Lf body may = absurd may
-MayFollow-ended CrLf ending.CrLf body may = may
-MayFollow-ended CrLf ending.Absent body may = may
-MayFollow-ended CrLfStrict ending.Lf body may = absurd may
-MayFollow-ended CrLfStrict ending.CrLf body may = may
-MayFollow-ended CrLfStrict ending.Absent body may = may
+MayFollow-ended kind end body may = grind arith
 
 -- ---- a text has lines by CR LF
 
@@ -53,18 +45,11 @@ tail_body b body free (suc k) = λ is.
 
 more_body : (b : ℕ) (body : List ℕ) → ¬ ((b ≡ 13) × (get_or body 0 0 ≡ 10)) → IsBody CrLf body
     → IsBody CrLf (b ∷ body)
-more_body b body other free zero = λ is. absurd (omega (arith, is.0, is.1))
-more_body b body other free (suc zero) = λ is. other is
-more_body b body other free (suc (suc k)) = λ is.
-    let at : suc k - 1 ≡ k = omega arith in
-    let next : suc (suc k) - 1 ≡ suc k = omega arith in
-    free (suc k) (rw at (rw next at is.0), is.1)
+more_body b body other free is = grind arith
 
 more_end : (b : ℕ) (body : List ℕ) (end : Ending) → MayEnd CrLf end body
     → MayEnd CrLf end (b ∷ body)
-more_end b body ending.Lf may = may
-more_end b body ending.CrLf may = may
-more_end b body ending.Absent may = λ none. cc
+more_end b body end may = grind arith
 
 first_ended : (line next : Line) (lines : List Line)
     → All (λ one. one.ending ≢ ending.Absent)
@@ -111,8 +96,7 @@ change_first kind line new text lines held body may same =
 -- an empty line before lines
 before_empty : (text : List ℕ) (lines : List Line) → LinesEndedBy CrLf text lines
     → LinesEndedBy CrLf (13 ∷ 10 ∷ text) (record { body = []; ending = ending.CrLf } ∷ lines)
-before_empty text lines held = LinesEndedBy-cons CrLf (record { body = []; ending = ending.CrLf })
-    text lines (λ k is. omega (arith, is.1)) tt (λ none. cc) held
+before_empty text lines held = grind (arith, LinesEndedBy-cons)
 
 -- a CR before a text whose first line begins with LF
 after_cr : (body : List ℕ) (end : Ending) (text : List ℕ) (lines : List Line)
@@ -125,14 +109,10 @@ after_cr (x ∷ rest) ending.CrLf text lines feed held =
     let old : Line = record { body = x ∷ rest; ending = ending.CrLf } in
     let new : Line = record { body = rest; ending = ending.CrLf } in
     let is : x ∷ (line_text new ++ flat_map line_text lines) ≡ text = held.joined in
-    let whole : 13 ∷ 10 ∷ (line_text new ++ flat_map line_text lines) ≡ 13 ∷ text =
-    ap (λ c. 13 ∷ c ∷ (line_text new ++ flat_map line_text lines)) (sym feed)
-    ∙ ap (λ t. 13 ∷ t) is in (
+    let whole : 13 ∷ 10 ∷ (line_text new ++ flat_map line_text lines) ≡ 13 ∷ text = grind arith in (
       record { body = []; ending = ending.CrLf } ∷ new ∷ lines,
-      subst
-          (λ t. LinesEndedBy CrLf t (record { body = []; ending = ending.CrLf } ∷ new ∷ lines))
-          whole
-          (before_empty (line_text new ++ flat_map line_text lines) (new ∷ lines)
+      subst (λ t. LinesEndedBy CrLf t (record { body = []; ending = ending.CrLf } ∷ new ∷ lines))
+          whole (before_empty (line_text new ++ flat_map line_text lines) (new ∷ lines)
           (change_first CrLf old new text lines held
           (tail_body x rest (held.bodies 0 old (omega arith))) tt refl)),
     )
@@ -140,24 +120,18 @@ after_cr (x ∷ []) ending.Absent text lines feed held =
     let old : Line = record { body = x ∷ []; ending = ending.Absent } in
     let none : lines ≡ [] = last_if_absent old lines held.ended refl in
     let is : x ∷ flat_map line_text lines ≡ text = held.joined in
-    let whole : 13 ∷ 10 ∷ [] ≡ 13 ∷ text = ap (λ c. 13 ∷ c ∷ []) (sym feed)
-    ∙ (ap (λ ls. 13 ∷ x ∷ flat_map line_text ls) (sym none) ∙ ap (λ t. 13 ∷ t) is) in (
+    let whole : 13 ∷ 10 ∷ [] ≡ 13 ∷ text = grind arith in (
       record { body = []; ending = ending.CrLf } ∷ [],
-      subst (λ t. LinesEndedBy CrLf t (record { body = []; ending = ending.CrLf } ∷ [])) whole
-          (before_empty [] [] (LinesEndedBy-nil CrLf)),
+      grind (arith, before_empty, LinesEndedBy-nil),
     )
 after_cr (x ∷ y ∷ rest) ending.Absent text lines feed held =
     let old : Line = record { body = x ∷ y ∷ rest; ending = ending.Absent } in
     let new : Line = record { body = y ∷ rest; ending = ending.Absent } in
     let is : x ∷ (line_text new ++ flat_map line_text lines) ≡ text = held.joined in
-    let whole : 13 ∷ 10 ∷ (line_text new ++ flat_map line_text lines) ≡ 13 ∷ text =
-    ap (λ c. 13 ∷ c ∷ (line_text new ++ flat_map line_text lines)) (sym feed)
-    ∙ ap (λ t. 13 ∷ t) is in (
+    let whole : 13 ∷ 10 ∷ (line_text new ++ flat_map line_text lines) ≡ 13 ∷ text = grind arith in (
       record { body = []; ending = ending.CrLf } ∷ new ∷ lines,
-      subst
-          (λ t. LinesEndedBy CrLf t (record { body = []; ending = ending.CrLf } ∷ new ∷ lines))
-          whole
-          (before_empty (line_text new ++ flat_map line_text lines) (new ∷ lines)
+      subst (λ t. LinesEndedBy CrLf t (record { body = []; ending = ending.CrLf } ∷ new ∷ lines))
+          whole (before_empty (line_text new ++ flat_map line_text lines) (new ∷ lines)
           (change_first CrLf old new text lines held
           (tail_body x (y ∷ rest) (held.bodies 0 old (omega arith))) (λ none. cc) refl)),
     )
@@ -180,18 +154,13 @@ more_lines : (b : ℕ) (text : List ℕ) (lines : List Line) → LinesEndedBy Cr
 more_lines b text [] held =
     let one : Line = record { body = b ∷ []; ending = ending.Absent } in (
       one ∷ [],
-      subst (λ t. LinesEndedBy CrLf (b ∷ t) (one ∷ [])) held.joined
-          (LinesEndedBy-cons CrLf one [] []
-          (more_body b [] (λ is. omega (arith, is.1)) (λ k is. omega (arith, is.1))) (λ none. cc)
-          (λ is. refl) (LinesEndedBy-nil CrLf)),
+      grind (arith, LinesEndedBy-cons, more_body, LinesEndedBy-nil),
     )
 more_lines b text (line ∷ lines) held = elim (cases_eq b 13) [
   | inr other ↦ add_byte b line text lines (λ is. other is.0) held
   | inl cr ↦ elim (cases_eq (get_or line.body 0 0) 10) [
     | inr other ↦ add_byte b line text lines (λ is. other is.1) held
-    | inl feed ↦
-        let found = after_cr line.body line.ending text lines feed held in
-        (found.0, subst (λ c. LinesEndedBy CrLf (c ∷ text) found.0) (sym cr) found.1)
+    | inl feed ↦ grind (arith, after_cr line.body line.ending text lines feed held)
   ]
 ]
 
@@ -207,13 +176,7 @@ cr_lf_spans : (start : ℕ) (text : List ℕ)
 cr_lf_spans start text =
     let found = some_cr_lf_lines text in
     let spans = with_starts line_size start found.0 in
-    let alone = sym (items-with_starts line_size start found.0) in (
-      spans,
-      record {
-        lines = subst (LinesEndedBy CrLf text) alone found.1;
-        starts = ap (with_starts line_size start) alone;
-      },
-    )
+    let alone = sym (items-with_starts line_size start found.0) in grind arith
 
 pub some_spans : (kind : Endings) (start : ℕ) (text : List ℕ)
     → (spans : List (WithStart Line)) × LineSpansEndedBy (any_text kind) start text spans
@@ -230,52 +193,28 @@ cr_lf_body body strict k is =
     strict.0 (k, high, get_or_default body k 10 0 high ∙ is.1)
 
 pub cr_lf_end : (end : Ending) (body : List ℕ) → MayEnd CrLfStrict end body → MayEnd CrLf end body
-cr_lf_end ending.Lf body may = may
-cr_lf_end ending.CrLf body may = may
-cr_lf_end ending.Absent body may = may
+cr_lf_end end body may = grind arith
 
 -- lines by a kind are lines by the endings by which any text has some
 pub any_text_lines : (kind : Endings) (text : List ℕ) (lines : List Line)
     → LinesEndedBy kind text lines → LinesEndedBy (any_text kind) text lines
-any_text_lines Any text lines held = held
-any_text_lines CrLf text lines held = held
-any_text_lines CrLfStrict text lines held = record {
-  bodies = λ k d low. cr_lf_body _ (held.bodies k d low);
-  endings = λ k d low. cr_lf_end _ _ (held.endings k d low);
-  ended = held.ended;
-  joined = held.joined;
-}
+any_text_lines kind text lines held = grind (arith, cr_lf_body, cr_lf_end)
 
 pub any_text_spans : (kind : Endings) (start : ℕ) (text : List ℕ) (spans : List (WithStart Line))
     → LineSpansEndedBy kind start text spans → LineSpansEndedBy (any_text kind) start text spans
-any_text_spans kind start text spans held = record {
-  lines = any_text_lines kind text (items_of spans) held.lines;
-  starts = held.starts;
-}
+any_text_spans kind start text spans held =
+    grind (arith, any_text_lines kind text (items_of spans) held.lines)
 
 -- ---- the line of bytes by CR LF
 
 short_line : (line : List ℕ) → length line < 2 → ¬ (IsCrLfAt line (length line - 1))
-short_line [] short = λ is. omega (arith, is.1)
-short_line (x ∷ []) short = λ is. omega (arith, is.0, is.1)
-short_line (x ∷ y ∷ line) short = absurd (omega (arith, short))
+short_line line short = grind arith
 
 -- a text ends in CR LF where its last two bytes are these
 pub cr_lf_last : (line : List ℕ)
     → ((2 ≤ length line) × (get_or line (length line - 2) 0 ≡ 13)
     × (get_or line (length line - 1) 0 ≡ 10)) ↔ IsCrLfAt line (length line - 1)
-cr_lf_last line =
-    let at : length line - 1 - 1 ≡ length line - 2 = omega arith in (
-      λ is. (rw at is.1, is.2),
-      λ is. (
-        (elim (cases_lt (length line) 2) [
-          | inl short ↦ absurd (short_line line short is)
-          | inr long ↦ long
-        ]),
-        rw at at is.0,
-        is.1,
-      ),
-    )
+cr_lf_last line = grind (arith, cases_lt, short_line)
 
 -- such a text is its body and CR LF
 cr_lf_parts : (line : List ℕ) → 2 ≤ length line → get_or line (length line - 2) 0 ≡ 13
@@ -289,21 +228,8 @@ module _ (start : ℕ) (line body : List ℕ) (one : IsOneLine CrLf line) where
       (record { start = start; item = record { body = body; ending = ending.Absent } } ∷ [])
   open_line is other =
       let last : Line = record { body = body; ending = ending.Absent } in
-      let free : IsBody CrLf line = λ k at. elim (cases_lt k (length line - 1)) [
-        | inl before ↦ one.1 k before at
-        | inr after ↦
-            let high : k < length line = feed_inside line k at.1 in
-            let same : k ≡ length line - 1 = omega (arith, after, high) in
-            other (subst (IsCrLfAt line) same at)
-      ] in
-      let some : body ≢ [] = λ none. omega (arith, one.0, ap length (sym is ∙ none)) in
-      record {
-        lines = subst (λ t. LinesEndedBy CrLf t (last ∷ []))
-            (append-nil (body ++ []) ∙ (append-nil body ∙ is))
-            (LinesEndedBy-cons CrLf last [] [] (subst (IsBody CrLf) (sym is) free) some
-            (λ absent. refl) (LinesEndedBy-nil CrLf));
-        starts = refl;
-      }
+      let free : IsBody CrLf line = grind (arith, cases_lt, feed_inside) in
+      grind (arith, append-nil, LinesEndedBy-cons, LinesEndedBy-nil)
 
   -- bytes that end in CR LF are the line before it
   pub closed_line : body ≡ take (length line - 2) line → IsCrLfAt line (length line - 1)
@@ -312,42 +238,23 @@ module _ (start : ℕ) (line body : List ℕ) (one : IsOneLine CrLf line) where
   closed_line is ends =
       let new : Line = record { body = body; ending = ending.CrLf } in
       let parts = (cr_lf_last line).1 ends in
-      let whole : body ++ 13 ∷ 10 ∷ [] ≡ line =
-      ap (λ t. t ++ 13 ∷ 10 ∷ []) is ∙ cr_lf_parts line parts.0 parts.1 parts.2 in
-      let long : length body + 2 ≡ length line =
-      omega (arith, length-append body (13 ∷ 10 ∷ []), ap length whole) in
-      let free : IsBody CrLf body = λ k at.
-      let high : k < length body = feed_inside body k at.1 in
-      let here : (j : ℕ) → j ≤ k → get_or line j 0 ≡ get_or body j 0 = λ j low.
-      ap (λ t. get_or t j 0) (sym whole)
-      ∙ get_or-append body (13 ∷ 10 ∷ []) 0 j (omega (arith, low, high)) in
-      one.1 k (omega (arith, high, long))
-      (here (k - 1) (omega arith) ∙ at.0, here k (omega arith) ∙ at.1) in
-      record {
-        lines = subst (λ t. LinesEndedBy CrLf t (new ∷ []))
-            (append-nil (body ++ 13 ∷ 10 ∷ []) ∙ whole)
-            (LinesEndedBy-cons CrLf new [] [] free tt (λ none. cc) (LinesEndedBy-nil CrLf));
-        starts = refl;
-      }
+      let whole : body ++ 13 ∷ 10 ∷ [] ≡ line = grind (arith, cr_lf_parts) in
+      let long : length body + 2 ≡ length line = grind (arith, length-append) in
+      grind (arith, feed_inside, get_or-append, append-nil, LinesEndedBy-cons, LinesEndedBy-nil)
 
 -- ---- by CR LF strictly
 
 no_code : (xs : List ℕ) (c : ℕ) → ((k : ℕ) → k < length xs → get_or xs k 0 ≢ c)
     → ¬ (Contains xs c)
-no_code xs c none found =
-    none found.0 found.1 (get_or_default xs found.0 0 c found.1 ∙ found.2)
+no_code xs c none found = grind (arith, get_or_default)
 
 -- the body of a line, which is its front, has neither CR nor LF
 clean_body : (line body : List ℕ) (n : ℕ) → length body ≡ n
     → ((k : ℕ) → k < n → get_or line k 0 ≡ get_or body k 0)
     → ((k : ℕ) → k < n → get_or line k 0 ≢ 10) → ((k : ℕ) → k < n → get_or line k 0 ≢ 13)
     → IsBody CrLfStrict body
-clean_body line body n long same no_feed no_cr = (
-  no_code body 10 (λ k low is.
-      let high : k < n = omega (arith, low, long) in no_feed k high (same k high ∙ is)),
-  no_code body 13 (λ k low is.
-      let high : k < n = omega (arith, low, long) in no_cr k high (same k high ∙ is)),
-)
+clean_body line body n long same no_feed no_cr =
+    grind (arith, no_code body 10 (grind arith), no_code body 13 (grind arith))
 
 -- bytes that stop at no earlier byte have no CR but the last
 pub no_cr_below : (line : List ℕ) (n k : ℕ) → FreeUpTo CrLfStrict line n → k + 1 < n
@@ -361,8 +268,7 @@ strict_body : (line body : List ℕ) (end : Ending) → body ++ ending_text end 
     → IsBody CrLf body → MayEnd CrLf end body → IsOneLine CrLfStrict line → IsBody CrLfStrict body
 strict_body line body ending.Lf whole free may one = absurd may
 strict_body line body ending.CrLf whole free may one =
-    let long : length body + 2 ≡ length line =
-    omega (arith, length-append body (13 ∷ 10 ∷ []), ap length whole) in
+    let long : length body + 2 ≡ length line = grind (arith, length-append) in
     clean_body line body (length body) refl
     (λ k low. ap (λ t. get_or t k 0) (sym whole) ∙ get_or-append body (13 ∷ 10 ∷ []) 0 k low)
     (λ k low is. one.1 k (omega (arith, low, long)) (inl is))
@@ -371,52 +277,21 @@ strict_body line body ending.Absent whole free may one =
     let is : body ≡ line = sym (append-nil body) ∙ whole in
     let long : length body ≡ length line = ap length is in
     elim one.2 [
-      | inl ends ↦ absurd (free (length line - 1)
-          (subst (λ t. IsCrLfAt t (length line - 1)) (sym is) ends))
+      | inl ends ↦ grind arith
       | inr open_end ↦ clean_body line body (length body) refl
-          (λ k low. ap (λ t. get_or t k 0) (sym is))
-          (λ k low feed. elim (cases_lt k (length line - 1)) [
-            | inl before ↦ one.1 k before (inl feed)
-            | inr after ↦
-                let same : k ≡ length line - 1 = omega (arith, after, low, long) in
-                open_end.0 (subst (λ j. get_or line j 0 ≡ 10) same feed)
-          ])
+          (λ k low. ap (λ t. get_or t k 0) (sym is)) (grind (arith, cases_lt))
           (λ k low cr. elim (cases_lt (k + 1) (length line - 1)) [
             | inl before ↦ no_cr_below line (length line - 1) k one.1 before cr
-            | inr after ↦ elim (cases_lt k (length line - 1)) [
-              | inl second ↦
-                  let same : k ≡ length line - 2 = omega (arith, after, second) in
-                  open_end.2 (subst (λ j. get_or line j 0 ≡ 13) same cr)
-              | inr last ↦
-                  let same : k ≡ length line - 1 = omega (arith, last, low, long) in
-                  open_end.1 (subst (λ j. get_or line j 0 ≡ 13) same cr)
-            ]
+            | inr after ↦ grind (arith, cases_lt)
           ])
     ]
 
 strict_end : (end : Ending) (body : List ℕ) → MayEnd CrLf end body → MayEnd CrLfStrict end body
-strict_end ending.Lf body may = may
-strict_end ending.CrLf body may = may
-strict_end ending.Absent body may = may
+strict_end end body may = grind arith
 
 -- a line by CR LF, of bytes with no lone CR or LF, is a line by CR LF strictly
 pub strict_line : (start : ℕ) (line : List ℕ) (span : WithStart Line)
     → LineSpansEndedBy CrLf start line (span ∷ []) → IsOneLine CrLfStrict line
     → LineSpansEndedBy CrLfStrict start line (span ∷ [])
 strict_line start line span held one =
-    let body = span.item.body in let end = span.item.ending in
-    let whole : body ++ ending_text end ≡ line =
-    sym (append-nil (body ++ ending_text end)) ∙ held.lines.joined in
-    let free : IsBody CrLf body = held.lines.bodies 0 span.item (omega arith) in
-    let may : MayEnd CrLf end body = held.lines.endings 0 span.item (omega arith) in
-    record {
-      lines = record {
-        bodies = All-cons (λ (one' : Line). IsBody CrLfStrict one'.body) span.item []
-            (strict_body line body end whole free may one) (All-nil _);
-        endings = All-cons (λ (one' : Line). MayEnd CrLfStrict one'.ending one'.body) span.item []
-            (strict_end end body may) (All-nil _);
-        ended = held.lines.ended;
-        joined = held.lines.joined;
-      };
-      starts = held.starts;
-    }
+    grind (arith, append-nil, All-cons, strict_body, All-nil, strict_end)

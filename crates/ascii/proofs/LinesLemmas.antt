@@ -1,14 +1,15 @@
 -- The lines of a text are one list, and how it breaks at either end.
 use Rattle.std.proofs.Common.{append-nil, ◌≡◌, ◌≢◌, ℕ, ◌+◌, ◌-◌, ◌≤◌, true, false, eqb, List, []}
-use Rattle.std.proofs.Common.{◌∷◌, ◌++◌, length, get_or, take, map, refl, sym, ap, ◌∙◌, subst}
-use Rattle.std.proofs.Common.{arith, eqb-true, append_assoc, inl, inr, Some}
+use Rattle.std.proofs.Common.{◌∷◌, ◌++◌, length, take, map, refl, sym, ap, ◌∙◌, subst, arith}
+use Rattle.std.proofs.Common.{eqb-true, append_assoc}
 use Rattle.std.specs.List.{All, Contains, flat_map, join_with_byte}
 use Rattle.std.proofs.lemmas.List.Splits.{join_with_byte-slice_split}
-use Rattle.std.proofs.lemmas.List.Elements.{All-cons, All-tail, All-nil, All-take}
+use Rattle.std.proofs.lemmas.List.Elements.{All-cons, All-tail, All-nil, All-take, All-push}
 use Rattle.std.proofs.lemmas.Bool.{false≢true, cond_both, cond-false, eqb-false, ne_eqb}
 use Rattle.std.proofs.lemmas.List.{length_push, get_or_push, take_at, same_from_push}
-use Rattle.std.proofs.lemmas.List.Elements.{All-push}
-use Rattle.ascii.proofs.PiecesLemmas.{pieces_of-split_at_first}
+use Rattle.ascii.proofs.PiecesLemmas.{pieces_of-split_at_first, HasNo-from_absent, absent-from_Free}
+use Rattle.ascii.proofs.PiecesLemmas.{all_free, length-pieces_of, pieces_of-free, slice_split-joint}
+use Rattle.ascii.proofs.PiecesLemmas.{slice_split-some}
 use Rattle.std.proofs.lemmas.Option.{get_or_from_slice_get, slice_get-get_or}
 use Rattle.std.proofs.lemmas.Grind.{common_steps}
 use Rattle.ascii.specs.declared.iter.spans.Ending.{Ending}
@@ -17,12 +18,9 @@ use Rattle.ascii.specs.Found.{HasNo, IsEndedBy, terminated_line, ends_in_cr, lin
 use Rattle.ascii.specs.Found.{lines_of_pieces, pieces_of}
 use Rattle.ascii.specs.declared.iter.spans.Endings.{Endings}
 use Rattle.ascii.specs.declared.iter.spans.Endings.TheVariants as by
-use Rattle.ascii.specs.Lines.{IsBody, LinesEndedBy, MayEnd}
-use Rattle.ascii.specs.Lines.{EndsInCr, Line, LinesOf, MayFollow, ending_text, line_text}
+use Rattle.ascii.specs.Lines.{IsBody, LinesEndedBy, MayEnd, EndsInCr, Line, LinesOf, MayFollow}
+use Rattle.ascii.specs.Lines.{ending_text, line_text}
 use Rattle.ascii_base.proofs.ListLemmas.{append-some, front_is}
-use Rattle.ascii.proofs.PiecesLemmas.{HasNo-from_absent, absent-from_Free, all_free}
-use Rattle.ascii.proofs.PiecesLemmas.{length-pieces_of, pieces_of-free, slice_split-joint}
-use Rattle.ascii.proofs.PiecesLemmas.{slice_split-some}
 
 -- the ending of a line may follow its body
 abbrev Follows : Line → Type 0
@@ -41,21 +39,17 @@ lines_of_pieces-append (p ∷ next ∷ ps) qs some =
 -- the lines around an LF are those up to it, and then those after it
 lines_of-joint : (a b : List ℕ)
     → lines_of (a ++ 10 ∷ b) ≡ map terminated_line (pieces_of 10 a) ++ lines_of b
-lines_of-joint a b = ap lines_of_pieces (slice_split-joint _ a 10 b refl)
-    ∙ lines_of_pieces-append (pieces_of 10 a) (pieces_of 10 b) (slice_split-some _ b)
+lines_of-joint a b = grind (arith, slice_split-joint, lines_of_pieces-append, slice_split-some)
 
 -- the first line is before the first LF
 pub lines_of-split_at_first : (t a b : List ℕ) → t ≡ a ++ 10 ∷ b → HasNo 10 a
     → lines_of t ≡ terminated_line a ∷ lines_of b
 lines_of-split_at_first t a b is free =
-    ap lines_of_pieces (pieces_of-split_at_first 10 t a b is free)
-    ∙ lines_of_pieces-append (a ∷ []) (pieces_of 10 b) (slice_split-some _ b)
+    grind (arith, pieces_of-split_at_first, lines_of_pieces-append, slice_split-some)
 
 -- whole lines, and what comes after them
 pub lines_of-behind : (a b : List ℕ) → IsEndedBy 10 a → lines_of (a ++ b) ≡ lines_of a ++ lines_of b
-lines_of-behind a b (inl none) = rw none
-lines_of-behind a b (inr some) =
-    rw (some.1, append_assoc, lines_of-joint some.0 b, lines_of-joint some.0 [], append-nil)
+lines_of-behind a b is = grind (arith, append_assoc, lines_of-joint, append-nil)
 
 -- ---- the line before a LF
 
@@ -67,10 +61,7 @@ ended_cases p P with_cr without_cr = cond_both (ends_in_cr p) _ _ P with_cr with
 
 -- a text that ends in CR
 cr_end : (p : List ℕ) → ends_in_cr p ≡ true → p ≡ take (length p - 1) p ++ 13 ∷ []
-cr_end [] is = absurd (false≢true is)
-cr_end (x ∷ xs) is =
-    let here = eqb-true (get_or (x ∷ xs) (length (x ∷ xs) - 1) 0) 13 is in
-    grind (arith, common_steps)
+cr_end p is = grind (arith, false≢true, eqb-true, common_steps)
 
 -- the bytes of the line before a LF
 pub line_text-ended : (p : List ℕ) → line_text (terminated_line p) ≡ p ++ 10 ∷ []
@@ -80,8 +71,7 @@ line_text-ended p = ended_cases p (λ line. line_text line ≡ p ++ 10 ∷ [])
     (λ is. refl)
 
 MayEnd-ended : (p : List ℕ) → Follows (terminated_line p)
-MayEnd-ended p = ended_cases p Follows (λ is. tt)
-    (λ is ends. eqb-false _ 13 is (get_or_from_slice_get p (length p - 1) 13 0 ends))
+MayEnd-ended p = grind (arith, ended_cases, eqb-false, get_or_from_slice_get)
 
 terminated_line-has : (p : List ℕ) → (terminated_line p).ending ≢ Absent
 terminated_line-has p = ended_cases p (λ line. line.ending ≢ Absent) (λ is none. cc) (λ is none. cc)
@@ -98,24 +88,16 @@ pub LinesEndedBy-cons : (kind : Endings) (line : Line) (text : List ℕ) (lines 
     → IsBody kind line.body → MayEnd kind line.ending line.body
     → (line.ending ≡ Absent → lines ≡ []) → LinesEndedBy kind text lines
     → LinesEndedBy kind (line_text line ++ text) (line ∷ lines)
-LinesEndedBy-cons kind line text lines body may last others = record {
-  bodies = All-cons (λ one. IsBody kind one.body) line lines body others.bodies;
-  endings = All-cons (λ one. MayEnd kind one.ending one.body) line lines may others.endings;
-  ended = front lines last others.ended;
-  joined = ap (λ t. line_text line ++ t) others.joined;
-}
+LinesEndedBy-cons kind line text lines body may last others = grind (arith, All-cons, front)
   where
     front : (ls : List Line) → (line.ending ≡ Absent → ls ≡ [])
         → All (λ one. one.ending ≢ Absent) (take (length ls - 1) ls)
         → All (λ one. one.ending ≢ Absent) (take (length (line ∷ ls) - 1) (line ∷ ls))
     front [] last ended = All-nil _
-    front (next ∷ ls) last ended = rw (front_is line next ls)
-        (All-cons (λ one. one.ending ≢ Absent) line
-        (take (length (next ∷ ls) - 1) (next ∷ ls)) (λ none. let some = last none in cc) ended)
+    front (next ∷ ls) last ended = grind (arith, front_is, All-cons)
 
 pub LinesEndedBy-nil : (kind : Endings) → LinesEndedBy kind [] []
-LinesEndedBy-nil kind =
-    record { bodies = All-nil _; endings = All-nil _; ended = All-nil _; joined = refl }
+LinesEndedBy-nil kind = grind (arith, All-nil)
 
 LinesOf-pieces : (ps : List (List ℕ)) → ps ≢ [] → All (HasNo 10) ps
     → LinesOf (join_with_byte 10 ps) (lines_of_pieces ps)
@@ -143,21 +125,17 @@ LinesOf-lines_of t = rw (join_with_byte-slice_split 10 t) at
 same_lf : (body : List ℕ) → ¬ (EndsInCr body)
     → terminated_line body ≡ record { body = body; ending = Lf }
 same_lf [] not_cr = refl
-same_lf (x ∷ xs) not_cr = cond-false _ _ _ (ne_eqb _ 13 (λ is. not_cr
-    (slice_get-get_or (x ∷ xs) (length (x ∷ xs) - 1) 0 (omega arith) ∙ ap Some is)))
+same_lf (x ∷ xs) not_cr = grind (arith, cond-false, ne_eqb, slice_get-get_or)
 
 -- a body before CR LF
 same_cr : (body : List ℕ)
     → terminated_line (body ++ 13 ∷ []) ≡ record { body = body; ending = CrLf }
-same_cr body =
-    let n : length (body ++ 13 ∷ []) - 1 ≡ length body = omega (arith, length_push body 13) in
-    rw (n, get_or_push body 13 0 (length body) refl, take_at body (13 ∷ []) (length body) refl)
+same_cr body = grind (arith, length_push, get_or_push, take_at)
 
 -- a text without LF that is not empty is one line
 pub lines_of-open : (t : List ℕ) → HasNo 10 t → t ≢ []
     → lines_of t ≡ record { body = t; ending = Absent } ∷ []
-lines_of-open [] free some = absurd (some refl)
-lines_of-open (x ∷ xs) free some = ap lines_of_pieces (pieces_of-free 10 (x ∷ xs) free)
+lines_of-open t free some = grind (arith, pieces_of-free)
 
 -- a line is found again, before others or alone
 found_line : (body : List ℕ) (ending : Ending) (others : List ℕ) → ¬ (Contains body 10)
@@ -196,8 +174,7 @@ lines_of-joined (line ∷ next ∷ others) absent may ended =
 
 -- no other list is in the relation
 pub LinesOf-only : (t : List ℕ) (lines : List Line) → LinesOf t lines → lines ≡ lines_of t
-LinesOf-only t lines held = sym (lines_of-joined lines held.bodies held.endings held.ended)
-    ∙ ap lines_of held.joined
+LinesOf-only t lines held = grind (arith, lines_of-joined)
 
 -- ---- the lines at either end
 
@@ -211,13 +188,11 @@ lines_of-last_ended t a b is whole free = rw (is, append_assoc) (
 -- the last line of a text that does not
 pub lines_of-last_open : (t a b : List ℕ) → t ≡ a ++ b → IsEndedBy 10 a → HasNo 10 b → b ≢ []
     → lines_of t ≡ lines_of a ++ record { body = b; ending = Absent } ∷ []
-lines_of-last_open t a b is whole free some =
-    rw (is, lines_of-behind a b whole, lines_of-open b free some)
+lines_of-last_open t a b is whole free some = grind (arith, lines_of-behind, lines_of-open)
 
 -- a text that ends in another code has no whole lines
 pub not_whole : (front : List ℕ) (code : ℕ) → code ≢ 10 → ¬ (IsEndedBy 10 (front ++ code ∷ []))
-not_whole front code other (inl none) = append-some front (code ∷ []) (λ is. cc) none
-not_whole front code other (inr some) = other (same_from_push front some.0 code 10 some.1).1
+not_whole front code other is = grind (arith, front, append-some, same_from_push)
 
 -- a text that is not empty has a line
 pub lines_of-some : (t : List ℕ) → t ≢ [] → lines_of t ≢ []

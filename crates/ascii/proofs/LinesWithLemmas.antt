@@ -1,7 +1,7 @@
 -- The lines of a text whose body contains a needle.
-use Rattle.std.proofs.Common.{◌≡◌, ℕ, zero, suc, ◌+◌, ◌-◌, ◌<◌, ◌≤◌, Bool, true, false, List, []}
-use Rattle.std.proofs.Common.{◌∷◌, ◌++◌, length, get_or, take, drop, refl, sym, ap, subst, ◌∙◌}
-use Rattle.std.proofs.Common.{None, Some, arith, inl, inr, append_assoc, length-append}
+use Rattle.std.proofs.Common.{◌≡◌, ℕ, zero, suc, ◌+◌, ◌-◌, ◌<◌, ◌≤◌, true, false, List, [], ◌∷◌}
+use Rattle.std.proofs.Common.{◌++◌, length, get_or, take, drop, refl, sym, ap, subst, ◌∙◌, None}
+use Rattle.std.proofs.Common.{Some, arith, inl, inr, append_assoc, length-append}
 use Rattle.std.specs.Bool.{Decides}
 use Rattle.std.specs.List.{filter, flat_map}
 use Rattle.std.proofs.Math.Seq.{drop-append_seam}
@@ -15,7 +15,7 @@ use Rattle.memchr.specs.Find.{FindsNeedle, OccursAt, occurs_at}
 use Rattle.memchr.proofs.lemmas.MatchLemmas.{OccursAt-true, occurs_at-true}
 use Rattle.ascii.specs.declared.iter.cursor.Cursor.{Cursor}
 use Rattle.ascii.specs.Found.{IsAfterLines, IsEndedBy, IsSplitAfterLast, contains_text, line_spans}
-use Rattle.ascii.specs.Found.{lines_of, lines_with}
+use Rattle.ascii.specs.Found.{lines_with}
 use Rattle.ascii.specs.Lines.{Line, ending_text, line_text}
 use Rattle.ascii.specs.Search.{ContainsText}
 use Rattle.ascii.specs.Spans.{Filters, WithStart, line_size, with_starts}
@@ -61,41 +61,19 @@ not_there needle text none = false_from_ne_true _ (λ is. none (found_there need
 
 module _ (a b needle : List ℕ) (k : ℕ) where
   in_both : OccursAt a needle k → OccursAt (a ++ b) needle k
-  in_both occurs =
-      let fits = occurs.fits in
-      record {
-        fits = omega (arith, fits, length-append a b);
-        reads = λ j below.
-            get_or_append_left a b 0 (k + j) (omega (arith, fits)) ∙ occurs.reads j below;
-      }
+  in_both occurs = grind (arith, length-append, get_or_append_left)
 
   in_first : k + length needle ≤ length a → OccursAt (a ++ b) needle k → OccursAt a needle k
-  in_first fits occurs = record {
-    fits = fits;
-    reads = λ j below.
-        sym (get_or_append_left a b 0 (k + j) (omega arith)) ∙ occurs.reads j below;
-  }
+  in_first fits occurs = grind (arith, get_or_append_left)
 
   read_second : (j : ℕ) → get_or (a ++ b) (length a + k + j) 0 ≡ get_or b (k + j) 0
-  read_second j =
-      let at : length a + k + j ≡ length a + (k + j) = omega arith in
-      ap (λ n. get_or (a ++ b) n 0) at ∙ get_or-append-add a b (k + j) 0
+  read_second j = grind (arith, get_or-append-add)
 
   behind_first : OccursAt b needle k → OccursAt (a ++ b) needle (length a + k)
-  behind_first occurs =
-      let fits = occurs.fits in
-      record {
-        fits = omega (arith, fits, length-append a b);
-        reads = λ j below. read_second j ∙ occurs.reads j below;
-      }
+  behind_first occurs = grind (arith, length-append, read_second)
 
   in_second : OccursAt (a ++ b) needle (length a + k) → OccursAt b needle k
-  in_second occurs =
-      let fits = occurs.fits in
-      record {
-        fits = omega (arith, fits, length-append a b);
-        reads = λ j below. sym (read_second j) ∙ occurs.reads j below;
-      }
+  in_second occurs = grind (arith, length-append, read_second)
 
 -- ---- lines of a text without the needle
 
@@ -117,8 +95,7 @@ without needle start (line ∷ lines) none =
 
 module _ (needle : List ℕ) (part : WithStart (List ℕ)) where
   pub lines_with_none : ¬ (ContainsText needle part.item) → lines_with needle part ≡ []
-  lines_with_none none = without needle part.start (lines_of part.item)
-      (subst (λ t. ¬ (ContainsText needle t)) (sym (LinesOf-lines_of part.item).joined) none)
+  lines_with_none none = grind (arith, without, LinesOf-lines_of)
 
   pub lines_with_nowhere : FindsNeedle part.item needle 0 None → lines_with needle part ≡ []
   lines_with_nowhere finds = lines_with_none (λ occurs. finds occurs.0 (omega arith)
@@ -127,21 +104,10 @@ module _ (needle : List ℕ) (part : WithStart (List ℕ)) where
   -- they are those of the lines whose body contains it, and fit a `usize` as these do
   pub lines_with_are : Filters (λ line. ContainsText needle line.item.body) (line_spans part)
       (lines_with needle part)
-  lines_with_are = record {
-    test = λ line. contains_text needle line.item.body;
-    decides = λ line. contains_text-decides needle line.item.body;
-    are = refl;
-  }
+  lines_with_are = grind (arith, contains_text-decides)
 
   pub lines_with_fit : length (lines_with needle part) ≤ length part.item + 1
-  lines_with_fit =
-      let test : WithStart Line → Bool = λ line. contains_text needle line.item.body in
-      omega (
-        arith,
-        length-filter test (line_spans part),
-        count_by-le-length test (line_spans part),
-        line_spans_fit part,
-      )
+  lines_with_fit = grind (arith, length-filter, count_by-le-length, line_spans_fit)
 
 -- ---- lines before the first needle
 
@@ -151,10 +117,7 @@ line_spans_joint : (start : ℕ) (before after : List ℕ) → IsEndedBy 10 befo
     ≡ line_spans (record { start = start; item = before })
     ++ line_spans (record { start = start + length before; item = after })
 line_spans_joint start before after whole =
-    ap (with_starts line_size start) (lines_of-behind before after whole)
-    ∙ (with_starts-append line_size start (lines_of before) (lines_of after)
-    ∙ ap (λ n. with_starts line_size start (lines_of before)
-    ++ with_starts line_size (start + n) (lines_of after)) (room-lines_of before))
+    grind (arith, lines_of-behind, with_starts-append, room-lines_of)
 
 -- the part after the whole lines that end by a position
 pub after_lines : (place n : ℕ) (part to rest : WithStart (List ℕ)) (cut : Cursor × Cursor)
@@ -165,24 +128,9 @@ after_lines place n part to rest cut inside to_is is long start text =
     let before = text_of cut.0.view in
     let behind = text_of cut.1.view ++ drop place part.item in
     let front : take place part.item ≡ before ++ text_of cut.1.view = sym to_is ∙ is.text in
-    let whole : part.item ≡ before ++ behind =
-    sym (take-append-drop place part.item) ∙ (ap (λ t. t ++ drop place part.item) front
-    ∙ append_assoc before (text_of cut.1.view) (drop place part.item)) in
-    let rest_is : rest.item ≡ behind = text ∙ (ap (λ m. drop m part.item) long
-    ∙ (ap (drop (length before)) whole ∙ drop-append_seam before behind)) in
-    record {
-      before = before;
-      text = whole ∙ ap (λ t. before ++ t) (sym rest_is);
-      start = start ∙ ap (λ m. part.start + m) long;
-      whole = is.whole;
-      short = omega (
-        arith,
-        inside,
-        ap length front,
-        length-append before (text_of cut.1.view),
-        length-take-le place part.item inside,
-      );
-    }
+    let whole : part.item ≡ before ++ behind = grind (arith, take-append-drop, append_assoc) in
+    let rest_is : rest.item ≡ behind = grind (arith, drop-append_seam) in
+    grind (arith, length-append before (text_of cut.1.view), length-take-le place part.item inside)
 
 -- the first of the lines of a part starts where the part does, with its body
 first_of_lines : (start : ℕ) (lines : List Line) (line : WithStart Line)
@@ -191,23 +139,19 @@ first_of_lines : (start : ℕ) (lines : List Line) (line : WithStart Line)
     × ((tail : List ℕ) × (flat_map line_text lines ≡ line.item.body ++ tail))
 first_of_lines start [] line others is = absurd (omega (arith, ap length is))
 first_of_lines start (first ∷ lines) line others is =
-    let same : line ≡ record { start = start; item = first } =
-    sym (ap (λ ls. get_or ls 0 line) is) in
+    let same : line ≡ record { start = start; item = first } = grind arith in
     let tail = ending_text first.ending ++ flat_map line_text lines in (
       ap (λ (one : WithStart Line). one.start) same,
       (
         tail,
-        append_assoc first.body (ending_text first.ending) (flat_map line_text lines)
-            ∙ ap (λ (one : WithStart Line). one.item.body ++ tail) (sym same),
+        grind (arith, append_assoc),
       ),
     )
 
 first_body : (part : WithStart (List ℕ)) (line : WithStart Line) (others : List (WithStart Line))
     → line_spans part ≡ line ∷ others
     → (line.start ≡ part.start) × ((tail : List ℕ) × (part.item ≡ line.item.body ++ tail))
-first_body part line others is =
-    let first = first_of_lines part.start (lines_of part.item) line others is in
-    (first.0, (first.1.0, sym (LinesOf-lines_of part.item).joined ∙ first.1.1))
+first_body part line others is = grind (arith, first_of_lines, LinesOf-lines_of)
 
 -- `rest` is what `part` has after some whole lines, which end at the first needle or before
 module _ (needle : List ℕ) (place : ℕ) (part rest : WithStart (List ℕ))
@@ -219,10 +163,7 @@ module _ (needle : List ℕ) (place : ℕ) (part rest : WithStart (List ℕ))
   front = record { start = part.start; item = is.before }
 
   all_lines : line_spans part ≡ line_spans front ++ line_spans rest
-  all_lines = ap (λ t. line_spans (record { start = part.start; item = t })) is.text
-      ∙ (line_spans_joint part.start is.before rest.item is.whole
-      ∙ ap (λ n. line_spans front ++ line_spans (record { start = n; item = rest.item }))
-      (sym is.start))
+  all_lines = grind (arith, line_spans_joint)
 
   none_before : 0 < length is.before → ¬ (ContainsText needle is.before)
   none_before some occurs =
@@ -232,10 +173,7 @@ module _ (needle : List ℕ) (place : ℕ) (part rest : WithStart (List ℕ))
       elim (cases_lt k place) [
         | inl sooner ↦ in_joint.0.before k (omega arith) sooner
             (in_both is.before rest.item needle k occurs.1)
-        | inr past ↦ in_joint.0.before 0 (omega arith) (omega (arith, some, short)) (record {
-          fits = omega (arith, fits, past, short);
-          reads = λ j below. absurd (omega (arith, fits, past, short, below));
-        })
+        | inr past ↦ in_joint.0.before 0 (omega arith) (omega (arith, some, short)) (grind arith)
       ]
 
   no_lines_before : lines_with needle front ≡ []
@@ -250,8 +188,7 @@ module _ (needle : List ℕ) (place : ℕ) (part rest : WithStart (List ℕ))
 
   -- the lines with the needle are among those of `rest`
   same_lines_with : lines_with needle part ≡ lines_with needle rest
-  same_lines_with = ap (filter _) all_lines ∙ (filter-append _ (line_spans front) (line_spans rest)
-      ∙ ap (λ ls. ls ++ lines_with needle rest) no_lines_before)
+  same_lines_with = ap (filter _) all_lines ∙ (grind (arith, filter-append, no_lines_before))
 
   pub no_line : line_spans rest ≡ [] → lines_with needle part ≡ []
   no_line none = same_lines_with ∙ ap (filter _) none
@@ -260,12 +197,7 @@ module _ (needle : List ℕ) (place : ℕ) (part rest : WithStart (List ℕ))
       (first : line_spans rest ≡ line ∷ line_spans others) where
     -- there are fewer lines after it
     pub fewer_lines : length (line_spans others) < length (line_spans part)
-    fewer_lines = omega (
-      arith,
-      ap length all_lines,
-      length-append (line_spans front) (line_spans rest),
-      ap length first,
-    )
+    fewer_lines = grind (arith, all_lines, length-append)
 
     -- it contains the needle if the first one ends in its body
     in_body : part.start + place + length needle ≤ line.start + length line.item.body

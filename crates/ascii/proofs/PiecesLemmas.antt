@@ -20,8 +20,7 @@ HasNo-from_absent on piece absent k d inside =
     ne_eqb _ on (λ is. absent (k, inside, get_or_default piece k on d inside ∙ is))
 
 pub absent-from_Free : (on : ℕ) (piece : List ℕ) → HasNo on piece → ¬ (Contains piece on)
-absent-from_Free on piece free held =
-    eqb-false on on (All-contains (λ code. eqb code on ≡ false) piece on free held) refl
+absent-from_Free on piece free held = grind (arith, eqb-false, All-contains, eqb)
 
 -- ---- how a list of pieces breaks
 
@@ -31,8 +30,7 @@ slice_split-some p xs none = absurd (omega (arith, length-slice_split p xs, ap l
 
 onto_first-append : {X : Type 0} (x : X) (ps qs : List (List X)) → ps ≢ []
     → onto_first x (ps ++ qs) ≡ onto_first x ps ++ qs
-onto_first-append x [] qs some = absurd (some refl)
-onto_first-append x (p ∷ ps) qs some = refl
+onto_first-append x ps qs some = grind arith
 
 -- the pieces around a separator are those before it, and then those after it
 pub slice_split-joint : {X : Type 0} (p : X → Bool) (a : List X) (c : X) (b : List X) → p c ≡ true
@@ -50,14 +48,12 @@ is_on on = grind (arith, nat_tests)
 -- the first piece is before the first separator
 pub pieces_of-split_at_first : (on : ℕ) (t a b : List ℕ) → t ≡ a ++ on ∷ b → HasNo on a
     → pieces_of on t ≡ a ∷ pieces_of on b
-pieces_of-split_at_first on t a b is free =
-    rw is (slice_split_at _ a on b free (is_on on))
+pieces_of-split_at_first on t a b is free = grind (arith, slice_split_at, is_on)
 
 -- the last piece comes after the last separator
 pub pieces_of-split_at_last : (on : ℕ) (t a b : List ℕ) → t ≡ a ++ on ∷ b → HasNo on b
     → pieces_of on t ≡ pieces_of on a ++ b ∷ []
-pieces_of-split_at_last on t a b is free =
-    rw (is, slice_split-joint _ a on b (is_on on), slice_split_none _ b free)
+pieces_of-split_at_last on t a b is free = grind (arith, slice_split-joint, is_on, slice_split_none)
 
 -- a text without the separator is its one piece
 pub pieces_of-free : (on : ℕ) (t : List ℕ) → HasNo on t → pieces_of on t ≡ t ∷ []
@@ -74,9 +70,8 @@ onto_first-free on x (part ∷ parts) is free = All-cons (HasNo on) (x ∷ part)
 
 pub all_free : (on : ℕ) (t : List ℕ) → All (HasNo on) (pieces_of on t)
 all_free on [] = search (rules, All-cons, All-nil)
-all_free on (x ∷ xs) = cond_both (eqb x on) _ _ (All (HasNo on))
-    (λ is. All-cons (HasNo on) [] (pieces_of on xs) (All-nil _) (all_free on xs))
-    (λ is. onto_first-free on x (pieces_of on xs) is (all_free on xs))
+all_free on (x ∷ xs) =
+    grind (arith, cond_both, eqb, All-cons, All-nil, onto_first-free, all_free on xs)
 
 -- the pieces found are in the relation
 pub Pieces-pieces_of : (t : List ℕ) (on : ℕ) → Pieces t on (pieces_of on t)
@@ -104,8 +99,4 @@ Pieces-only t on pieces held = sym (pieces_of-joined on pieces held.some
 
 -- there is at most one more than the codes of the text
 pub length-pieces_of : (on : ℕ) (t : List ℕ) → length (pieces_of on t) ≤ length t + 1
-length-pieces_of on t = omega (
-  arith,
-  length-slice_split (λ code. eqb code on) t,
-  count_by-le-length (λ code. eqb code on) t,
-)
+length-pieces_of on t = grind (arith, length-slice_split, eqb, count_by-le-length)

@@ -26,10 +26,7 @@ use Rattle.ascii.proofs.EndedLemmas.{each_span, items_from, items_one, items_ope
 -- a text that has an item at a place, and something after it
 pub has_at : (text item rest : List ℕ) (place : ℕ) → drop place text ≡ item ++ rest
     → HasAt text place item
-has_at text item rest place is =
-    let size : place + length item - place ≡ length item = omega arith in
-    ap (λ n. take n (drop place text)) size
-    ∙ (ap (take (length item)) is ∙ take_at item rest (length item) refl)
+has_at text item rest place is = grind (arith, take_at)
 
 -- the same of a text that starts at an offset, of which `t` is what comes from `start` on
 placed_at : (offset : ℕ) (text t gap item after : List ℕ) (start : ℕ) → offset ≤ start
@@ -37,17 +34,13 @@ placed_at : (offset : ℕ) (text t gap item after : List ℕ) (start : ℕ) → 
     → t ≡ gap ++ (item ++ after)
     → IsPlaced offset text (record { start = start + length gap; item = item })
 placed_at offset text t gap item after start low is end within =
-    let size : length t ≡ length gap + (length item + length after) =
-    ap length within ∙ length-append gap (item ++ after)
-    ∙ ap (λ n. length gap + n) (length-append item after) in
-    let at : start + length gap - offset ≡ (start - offset) + length gap = omega (arith, low) in
-    record {
-      low = omega (arith, low);
-      high = omega (arith, size, end);
-      has = has_at text item after (start + length gap - offset) (ap (λ n. drop n text) at
-          ∙ (sym (drop-drop (length gap) (start - offset) text)
-          ∙ (ap (drop (length gap)) (is ∙ within) ∙ drop-append_seam gap (item ++ after))));
-    }
+    grind (
+      arith,
+      length-append,
+      has_at,
+      drop-drop (length gap) (start - offset) text,
+      drop-append_seam gap (item ++ after),
+    )
 
 omega_zero : (n : ℕ) → n ≡ n + 0
 omega_zero n = omega arith
@@ -129,22 +122,19 @@ module _ (items : ℕ → List ℕ → List (WithStart (List ℕ)))
               let behind : drop (start + length first.front - offset) text ≡ first.rest =
               ap (λ n. drop n text) next
               ∙ (sym (drop-drop (length first.front) (start - offset) text)
-              ∙ (ap (drop (length first.front)) (is ∙ first.split)
-              ∙ drop-append_seam first.front first.rest)) in
+              ∙ (grind (arith, drop-append_seam))) in
               rw first.is (All-cons Is
               (record { start = start + length first.gap; item = first.item })
               (items (start + length first.front) first.rest)
               (placed_at offset text t first.gap first.item first.after start low is end first.within)
-              (others (start + length first.front) first.rest (omega (arith, long, more))
-              (omega (arith, low)) behind (omega (arith, long, end))))
+              (grind arith))
         ]
       ]
 
   placed_up_to : (fuel start : ℕ) (t : List ℕ) → length t ≤ fuel → offset ≤ start
       → drop (start - offset) text ≡ t → start + length t ≡ offset + length text
       → ArePlaced offset text (items start t)
-  placed_up_to zero start t long =
-      placed_step start t (λ next b short. absurd (omega (arith, long, short)))
+  placed_up_to zero start t long = grind (arith, placed_step)
   placed_up_to (suc fuel) start t long = placed_step start t
       (λ next b short. placed_up_to fuel next b (omega (arith, long, short)))
 
@@ -180,11 +170,7 @@ module _ (test : ℕ → Bool) where
               rest = cut.after;
               split = cut.split ∙ sym (append_assoc a (cut.code ∷ []) cut.after);
               some = omega (arith, size);
-              is = rw (cut.split, size) (pieces_joint test start a cut.code cut.after cut.cuts
-                  ∙ ap (λ xs. xs ++ piece_spans_by test
-                  (record { start = start + (length a + 1); item = cut.after }))
-                  (pieces_none test start a cut.free
-                  ∙ ap (λ n. record { start = n; item = a } ∷ []) (omega_zero start)));
+              is = grind (arith, pieces_joint, pieces_none, omega_zero);
             }))
       ]
 
@@ -204,8 +190,7 @@ module _ (on : ℕ) where
       kept : (spans : List (WithStart (List ℕ))) → ArePlaced offset text spans
           → ArePlaced offset text (with_last (each_span (λ piece. piece) on) some_span spans)
       kept [] placed = placed
-      kept (span ∷ []) placed = All-filter (λ one. has_some one.item)
-          (IsPlaced offset text) (span ∷ []) placed
+      kept (span ∷ []) placed = grind (arith, All-filter)
       kept (span ∷ next ∷ spans) placed =
           All-cons (IsPlaced offset text) span _
           (All-head (IsPlaced offset text) span (next ∷ spans) placed)
@@ -226,10 +211,8 @@ module _ (on : ℕ) where
         | inr cut ↦
             let a = cut.before in
             let c_is = eqb-true cut.code on cut.cuts in
-            let split : d ∷ t ≡ a ++ on ∷ cut.after =
-            cut.split ∙ ap (λ c. a ++ c ∷ cut.after) c_is in
-            let whole : d ∷ t ≡ (a ++ on ∷ []) ++ cut.after =
-            split ∙ sym (append_assoc a (on ∷ []) cut.after) in
+            let split : d ∷ t ≡ a ++ on ∷ cut.after = grind arith in
+            let whole : d ∷ t ≡ (a ++ on ∷ []) ++ cut.after = grind (arith, append_assoc) in
             let size : length (a ++ on ∷ []) ≡ length a + 1 = length-append a (on ∷ []) in
             inr (inr (record {
               gap = [];
@@ -241,10 +224,7 @@ module _ (on : ℕ) where
               split = whole;
               some = omega (arith, size);
               is = ap (items_from (λ piece. piece ++ on ∷ []) on start) split
-                  ∙ rw size (items_one (λ piece. piece ++ on ∷ []) on start a cut.after cut.free
-                  ∙ ap (λ n. record { start = n; item = a ++ on ∷ [] }
-                  ∷ items_from (λ piece. piece ++ on ∷ []) on (start + (length a + 1)) cut.after)
-                  (omega_zero start));
+                  ∙ rw size (grind (arith, items_one, items_from, omega_zero));
             }))
       ]
 
@@ -271,9 +251,7 @@ search_up t needle (suc n) = elim (search_up t needle n) [
     | inl here ↦ inr (n, omega arith, none, OccursAt-true t needle n here)
     | inr out ↦ inl (λ k low high occurs. elim (cases_lt k n) [
       | inl sooner ↦ none k low sooner occurs
-      | inr later ↦
-          let same : k ≡ n = omega (arith, high, later) in
-          false≢true (sym out ∙ occurs_at-true t needle n (subst (OccursAt t needle) same occurs))
+      | inr later ↦ grind (arith, false≢true, occurs_at-true)
     ])
   ]
   | inr found ↦ inr (found.0, omega (arith, found.1), found.2, found.3)
@@ -282,11 +260,7 @@ search_up t needle (suc n) = elim (search_up t needle n) [
 -- a needle that is not empty is found at a place, or nowhere
 finds_needle : (t needle : List ℕ) → FindsNeedle t needle 0 None
     ⊎ ((k : ℕ) × FindsNeedle t needle 0 (Some k))
-finds_needle t needle = elim (search_up t needle (length t + 1)) [
-  | inl none ↦ inl none
-  | inr found ↦
-      inr (found.0, (record { low = omega arith; high = found.1; before = found.2 }, found.3))
-]
+finds_needle t needle = grind (arith, search_up t needle (length t + 1))
 
 module _ (needle : List ℕ) (some_needle : needle ≢ []) where
   needle_long : (needle : List ℕ) → needle ≢ [] → 0 < length needle
@@ -314,10 +288,7 @@ module _ (needle : List ℕ) (some_needle : needle ≢ []) where
           rest = drop m t;
           split = sym (take-append-drop m t);
           some = omega (arith, size, needle_long needle some_needle);
-          is = rw size (piece_spans_at_first start t needle k some_needle found.1
-              ∙ ap (λ n. record { start = n; item = take k t }
-              ∷ piece_spans_at needle (record { start = start + m; item = drop m t }))
-              (omega_zero start));
+          is = grind (arith, piece_spans_at_first, omega_zero);
         }))
   ]
 
@@ -338,8 +309,7 @@ module _ (needle : List ℕ) (some_needle : needle ≢ []) where
           gap = take k t;
           item = needle;
           after = drop m t;
-          within = sym (take-append-drop k t) ∙ ap (λ xs. take k t ++ xs)
-              (OccursAt-split t needle k found.1.1);
+          within = grind (arith, take-append-drop, OccursAt-split);
           front = take m t;
           rest = drop m t;
           split = sym (take-append-drop m t);
@@ -387,14 +357,12 @@ lines_from offset text start (line ∷ lines) rest low is end =
     ap (λ n. drop n text) next ∙ (sym (drop-drop (length (line_text line)) (start - offset) text)
     ∙ (ap (drop (length (line_text line))) whole ∙ drop-append_seam (line_text line) others)) in
     let size : length (flat_map line_text (line ∷ lines) ++ rest) ≡ line_size line + length others =
-    ap length (append_assoc (line_text line) (flat_map line_text lines) rest)
-    ∙ length-append (line_text line) others in
+    grind (arith, append_assoc, length-append) in
     All-cons Is (record { start = start; item = line })
     (with_starts line_size (start + line_size line) lines)
     (subst (λ n. IsPlaced offset text (record { start = n; item = line.body })) (sym (omega_zero start))
     (placed_at offset text _ [] line.body (ending_text line.ending ++ others) start low is end
-    (append_assoc (line_text line) (flat_map line_text lines) rest
-    ∙ append_assoc line.body (ending_text line.ending) others)))
+    (grind (arith, append_assoc))))
     (lines_from offset text (start + line_size line) lines rest (omega (arith, low)) behind
     (omega (arith, size, end)))
 
@@ -403,8 +371,7 @@ pub first_lines_placed : (offset : ℕ) (text : List ℕ) (lines : List Line) (r
     → flat_map line_text lines ++ rest ≡ text
     → ArePlacedLines offset text (with_starts line_size offset lines)
 first_lines_placed offset text lines rest joined = lines_from offset text offset lines rest
-    (omega arith) (let none : offset - offset ≡ 0 = omega arith in
-    ap (λ n. drop n text) none ∙ sym joined) (ap (λ t. offset + length t) joined)
+    (omega arith) (grind arith) (ap (λ t. offset + length t) joined)
 
 -- the body of each line of a text
 pub lines_placed : (offset : ℕ) (text : List ℕ) (spans : List (WithStart Line))

@@ -1,6 +1,6 @@
 -- One more occurrence is replaced.
-use Rattle.std.proofs.Common.{◌≡◌, ◌≢◌, ℕ, ◌+◌, List, [], ◌++◌, Some, None, length, take, drop, sym, subst}
-use Rattle.std.proofs.Common.{◌∙◌, append_assoc, arith, refl}
+use Rattle.std.proofs.Common.{◌≡◌, ◌≢◌, ℕ, ◌+◌, List, [], ◌++◌, Some, None, length, take, drop, sym}
+use Rattle.std.proofs.Common.{subst, ◌∙◌, append_assoc, arith}
 use Rattle.std.specs.List.{slice_range}
 use Rattle.std.proofs.lemmas.Grind.{common_steps}
 use Rattle.std.proofs.lemmas.List.{nil_from_length, take_rest}
@@ -19,10 +19,8 @@ replaces_more from to whole done rest piece later copied k found piece_is later_
     out more =
     let start : piece ≡ take k rest = piece_is ∙ grind (arith, common_steps) in
     let end = later_is ∙ take_rest rest (k + length from) in
-    let moved : Replaces from to (drop (k + length from) rest) out =
-    subst (λ text. Replaces from to text out) end more in
-    let all : done ++ (take k rest ++ (to ++ out)) ≡ copied ++ out =
-    rw (copied_is, start, append_assoc, append_assoc) refl in
+    let moved : Replaces from to (drop (k + length from) rest) out = grind arith in
+    let all : done ++ (take k rest ++ (to ++ out)) ≡ copied ++ out = grind (arith, append_assoc) in
     subst (Replaces from to whole) all
     (left (take k rest ++ (to ++ out)) (first rest out k found moved))
 
@@ -38,6 +36,5 @@ replaces_all from to whole done rest copied none copied_is left =
 pub replaces_nothing : (from to text out : List ℕ) → from ≢ [] → text ≡ [] → out ≡ []
     → Replaces from to text out
 replaces_nothing from to text out some is_empty none =
-    let absent : FindsNeedle [] from 0 None =
-    λ k above below occurs. some (nil_from_length from (omega (arith, occurs.fits))) in
+    let absent : FindsNeedle [] from 0 None = grind (arith, nil_from_length) in
     rw (is_empty, none) (unchanged [] absent)

@@ -31,11 +31,8 @@ module _ {F : Type 0} (R : F → AsciiChar → Bool → F → Type 0) where
   returns_push p q r [] [] b ch many same call = (r, subst (λ s. R s ch b r) (sym same) call, refl)
   returns_push p q r [] (next ∷ xs) b ch many same call = absurd (omega (arith, many))
   returns_push p q r (c ∷ bs) [] b ch many called call = absurd called
-  returns_push p q r (c ∷ bs) (next ∷ xs) b ch many called call = (
-    called.0,
-    called.1,
-    returns_push called.0 q r bs xs b ch (omega (arith, many)) called.2 call,
-  )
+  returns_push p q r (c ∷ bs) (next ∷ xs) b ch many called call =
+      grind (arith, returns_push called.0 q r bs xs b ch (omega (arith, many)) called.2 call)
 
 where_push : {A : Type 0} (bs : List Bool) (xs : List A) (b : Bool) (x : A)
     → length bs ≡ length xs
@@ -44,26 +41,20 @@ where_push [] [] true x many = refl
 where_push [] [] false x many = refl
 where_push [] (y ∷ xs) b x many = absurd (omega (arith, many))
 where_push (c ∷ bs) [] b x many = absurd (omega (arith, many))
-where_push (true ∷ bs) (y ∷ xs) b x many =
-    ap (λ zs. y ∷ zs) (where_push bs xs b x (omega (arith, many)))
+where_push (true ∷ bs) (y ∷ xs) b x many = grind (arith, where_push bs xs b x (omega (arith, many)))
 where_push (false ∷ bs) (y ∷ xs) b x many = where_push bs xs b x (omega (arith, many))
 
 -- a code written after the first `kept`, and counted if `b` is true
 front_push : (codes : List ℕ) (kept : ℕ) (b : Bool) (code : ℕ) → kept < length codes
     → take (kept + cond b 1 0) (set codes kept code) ≡ take kept codes ++ cond b (code ∷ []) []
-front_push codes kept true code inside = take_more_set codes kept code inside
-front_push codes kept false code inside =
-    ap (λ n. take n (set codes kept code)) (add-zero kept)
-    ∙ (take-set codes kept code ∙ sym (append-nil (take kept codes)))
+front_push codes kept b code inside = grind (arith, take_more_set, add-zero, take-set, append-nil)
 
 map_cond : (b : Bool) (ch : AsciiChar)
     → map code_of (cond b (ch ∷ []) []) ≡ cond b (code_of ch ∷ []) []
-map_cond true ch = refl
-map_cond false ch = refl
+map_cond b ch = grind arith
 
 counted : (b : Bool) (kept at : ℕ) → kept ≤ at → kept + cond b 1 0 ≤ at + 1
-counted true kept at order = omega (arith, order)
-counted false kept at order = omega (arith, order)
+counted b kept at order = grind arith
 
 module _ {F : Type 0} (R : F → AsciiChar → Bool → F → Type 0) where
   pub keeps_none : (from : F) (old : List ℕ) → KeepsUpTo R from old old 0 0 from
@@ -87,26 +78,17 @@ module _ {F : Type 0} (R : F → AsciiChar → Bool → F → Type 0) where
       let code = code_of ch in
       let here = items_where_true so_far.answers so_far.all in
       let same : code ≡ get_or old at 0 = is ∙ (ap (λ n. get_or codes n 0) (sym (add-zero at))
-      ∙ (sym (get_or-drop at codes 0 0) ∙ (ap (λ t. get_or t 0 0) so_far.rest
-      ∙ (get_or-drop at old 0 0 ∙ ap (λ n. get_or old n 0) (add-zero at))))) in
+      ∙ (grind (arith, get_or-drop, add-zero))) in
       record {
         all = so_far.all ++ ch ∷ [];
         answers = so_far.answers ++ b ∷ [];
         many = grind (arith, common_steps, so_far.many);
         are = map-append code_of so_far.all (ch ∷ [])
-            ∙ (ap (λ t. t ++ code ∷ []) so_far.are ∙ (ap (λ n. take at old ++ n ∷ []) same
-            ∙ (sym (take_more_set old at (get_or old at 0) inside)
-            ∙ ap (λ t. take (at + 1) t) (set-get_or old at 0))));
-        called =
-            returns_push R from q r so_far.answers so_far.all b ch so_far.many so_far.called call;
-        front = front_push codes kept b code (omega (arith, order, inside, long))
-            ∙ (ap (λ t. t ++ cond b (code ∷ []) []) so_far.front
-            ∙ (ap (λ t. map code_of here ++ t) (sym (map_cond b ch))
-            ∙ (sym (map-append code_of here (cond b (ch ∷ []) []))
-            ∙ ap (map code_of) (sym (where_push so_far.answers so_far.all b ch so_far.many)))));
+            ∙ (grind (arith, take_more_set old, set-get_or old));
+        called = grind (arith, returns_push);
+        front = grind (arith, front_push, map_cond, map-append, where_push);
         rest = drop-set-lt (at + 1) codes kept code (omega (arith, order))
-            ∙ (sym (drop-drop 1 at codes)
-            ∙ (ap (λ t. drop 1 t) so_far.rest ∙ drop-drop 1 at old));
+            ∙ (sym (drop-drop 1 at codes) ∙ (ap (λ t. drop 1 t) so_far.rest ∙ drop-drop 1 at old));
         order = counted b kept at order;
       }
 
@@ -117,6 +99,4 @@ module _ {F : Type 0} (R : F → AsciiChar → Bool → F → Type 0) where
       → KeepsUpTo R from old codes kept at q → R q ch b r
       → KeepsUpTo R from old (set codes kept code) (kept + step) (at + 1) r
   keeps_next from q r old codes kept at b ch code step inside long is read count so_far call =
-      subst (λ n. KeepsUpTo R from old (set codes kept code) (kept + n) (at + 1) r) count
-      (subst (λ n. KeepsUpTo R from old (set codes kept n) (kept + cond b 1 0) (at + 1) r)
-      (sym read) (keeps_push from q r old codes kept at b ch inside long is so_far call))
+      grind (arith, keeps_push)

@@ -1,7 +1,6 @@
 -- Runs of codes at the ends of a text.
-use Rattle.std.proofs.Common.{◌≡◌, ◌≢◌, ℕ, ◌-◌, ◌<◌, Bool, true, false, not, List, []}
-use Rattle.std.proofs.Common.{◌∷◌, ◌++◌, take}
-use Rattle.std.proofs.Common.{length, get_or, refl, sym, ap, subst, ◌∙◌, arith, inl, inr}
+use Rattle.std.proofs.Common.{◌≡◌, ◌≢◌, ℕ, ◌-◌, ◌<◌, Bool, true, false, not, List, [], ◌∷◌, ◌++◌}
+use Rattle.std.proofs.Common.{take, length, get_or, refl, arith}
 use Rattle.std.specs.Option.{IfSome}
 use Rattle.std.specs.List.{All, slice_get}
 use Rattle.std.specs.Bool.{Decides}
@@ -20,26 +19,20 @@ use Rattle.ascii.specs.Spans.{WithStart}
 -- the code at a position, if there is one
 code_at : (P : ℕ → Type 0) (t : List ℕ) (i : ℕ) → (i < length t → P (get_or t i 0))
     → IfSome (slice_get t i) P
-code_at P t i at = elim (cases_lt i (length t)) [
-  | inl inside ↦ rw (slice_get-get_or t i 0 inside) (at inside)
-  | inr past ↦ rw (slice_get_past t i past) tt
-]
+code_at P t i at = grind (arith, cases_lt, slice_get-get_or, slice_get_past)
 
 -- ---- the last code
 
 -- the last code of a text that ends with another, not empty, is that of the end
 pub last_kept : (front t : List ℕ) → t ≢ []
     → get_or (front ++ t) (length (front ++ t) - 1) 0 ≡ get_or t (length t - 1) 0
-last_kept front [] some = absurd (some refl)
-last_kept front (c ∷ t) some = grind (arith, common_steps)
+last_kept front t some = grind (arith, common_steps)
 
 -- the last code of a text that is not empty has what is true of the last one, if there is one
 pub last_code : (P : ℕ → Type 0) (t : List ℕ) → t ≢ []
     → IfSome (slice_get t (length t - 1)) P → P (get_or t (length t - 1) 0)
 last_code P [] some bounded = absurd (some refl)
-last_code P (c ∷ t) some bounded =
-    let inside : length (c ∷ t) - 1 < length (c ∷ t) = omega arith in
-    subst (λ o. IfSome o P) (slice_get-get_or (c ∷ t) (length (c ∷ t) - 1) 0 inside) bounded
+last_code P (c ∷ t) some bounded = grind (arith, slice_get-get_or)
 
 -- the last code of a text that is not empty has what is true of all
 pub last_of_all : (P : ℕ → Type 0) (t : List ℕ) → t ≢ [] → All P t → P (get_or t (length t - 1) 0)
@@ -51,20 +44,15 @@ module _ (Is : ℕ → Type 0) where
   pub end_kept : (front t : List ℕ) → t ≢ []
       → IfSome (slice_get (front ++ t) (length (front ++ t) - 1)) Is
       → IfSome (slice_get t (length t - 1)) Is
-  end_kept front t some bounded = code_at Is t (length t - 1) (λ inside.
-      let more : front ++ t ≢ [] = λ none. some (grind (arith, common_steps, ap length none)) in
-      subst Is (last_kept front t some) (last_code Is (front ++ t) more bounded))
+  end_kept front t some bounded = grind (arith, code_at, common_steps, last_kept, last_code)
 
 -- a text is cut in one way into codes with a property and what begins with a code without it
 pub one_span : (P : ℕ → Type 0) (a b x y : List ℕ) → a ++ x ≡ b ++ y → All P a → All P b
     → IfSome (slice_get x 0) (λ c. ¬ (P c)) → IfSome (slice_get y 0) (λ c. ¬ (P c))
     → (a ≡ b) × (x ≡ y)
 one_span P [] [] x y same front other left right = (refl, same)
-one_span P [] (c ∷ b) x y same front other left right =
-    absurd (subst (λ xs. IfSome (slice_get xs 0) (λ d. ¬ (P d))) same left (All-head P c b other))
-one_span P (c ∷ a) [] x y same front other left right =
-    absurd (subst (λ xs. IfSome (slice_get xs 0) (λ d. ¬ (P d))) (sym same) right
-    (All-head P c a front))
+one_span P [] (c ∷ b) x y same front other left right = grind (arith, All-head)
+one_span P (c ∷ a) [] x y same front other left right = grind (arith, All-head)
 one_span P (c ∷ a) (d ∷ b) x y same front other left right =
     let head : c ≡ d = cc in
     let tails : a ++ x ≡ b ++ y = cc in
@@ -73,52 +61,31 @@ one_span P (c ∷ a) (d ∷ b) x y same front other left right =
 
 -- items at one start are equal
 pub same_span : (a b : WithStart (List ℕ)) → a.start ≡ b.start → a.item ≡ b.item → a ≡ b
-same_span a b starts items = ap (λ n. record { start = n; item = a.item }) starts
-    ∙ ap (λ t. record { start = b.start; item = t }) items
+same_span a b starts items = grind arith
 
 -- ---- a run on a side of a class, as a run of that side and as one outside the other side
 module _ (Is : ℕ → Type 0) where
   not_both : (side : Bool) (code : ℕ) → IsOnSide Is (not side) code → ¬ (IsOnSide Is side code)
-  not_both true code out = out
-  not_both false code is = λ out. out is
+  not_both side code out = grind arith
 
   not_other : (side : Bool) (code : ℕ) → IsOnSide Is side code → ¬ (IsOnSide Is (not side) code)
-  not_other true code is = λ out. out is
-  not_other false code out = out
+  not_other side code is = grind arith
 
   pub ends_gap : (side : Bool) (text : List ℕ) (from end : ℕ)
       → EndsRun Is side text from end → EndsRun (IsOnSide Is side) true text from end
-  ends_gap side text from end run = record {
-    low = run.low;
-    high = run.high;
-    run = run.run;
-    stop = λ within. not_both side _ (run.stop within);
-  }
+  ends_gap side text from end run = grind (arith, not_both)
 
   pub ends_word : (side : Bool) (text : List ℕ) (from end : ℕ)
       → EndsRun Is side text from end → EndsRun (IsOnSide Is (not side)) false text from end
-  ends_word side text from end run = record {
-    low = run.low;
-    high = run.high;
-    run = λ k from_on before. not_other side _ (run.run k from_on before);
-    stop = run.stop;
-  }
+  ends_word side text from end run = grind (arith, not_other)
 
   pub starts_gap : (side : Bool) (text : List ℕ) (to start : ℕ)
       → StartsRun Is side text to start → StartsRun (IsOnSide Is side) true text to start
-  starts_gap side text to start run = record {
-    high = run.high;
-    run = run.run;
-    stop = λ within. not_both side _ (run.stop within);
-  }
+  starts_gap side text to start run = grind (arith, not_both)
 
   pub starts_word : (side : Bool) (text : List ℕ) (to start : ℕ)
       → StartsRun Is side text to start → StartsRun (IsOnSide Is (not side)) false text to start
-  starts_word side text to start run = record {
-    high = run.high;
-    run = λ k from_on before. not_other side _ (run.run k from_on before);
-    stop = run.stop;
-  }
+  starts_word side text to start run = grind (arith, not_other)
 
   -- the run before a gap, with its last code, in the text up to the gap
   pub starts_last : (side : Bool) (text : List ℕ) (end start : ℕ)
@@ -126,20 +93,7 @@ module _ (Is : ℕ → Type 0) where
       → StartsRun Is side text (end - 1) start
       → StartsRun Is side (take end text) (length (take end text)) start
   starts_last side text end start gap some run =
-      let size : length (take end text) ≡ end = length-take-le end text gap.high in
-      let within : (k : ℕ) → k < end → get_or (take end text) k 0 ≡ get_or text k 0 =
-      λ k l. get_or-take end text k 0 l in
-      record {
-        high = omega (arith, run.high, size);
-        run = λ k from_on before. subst (IsOnSide Is side)
-            (sym (within k (omega (arith, size, before)))) (elim (cases_eq k (end - 1)) [
-              | inl same ↦ subst (λ i. IsOnSide Is side (get_or text i 0)) (sym same)
-                  (not_not Is side _ (gap.stop (omega (arith, some))))
-              | inr other ↦ run.run k from_on (omega (arith, size, before, other))
-            ]);
-        stop = λ inside. subst (IsOnSide Is (not side))
-            (sym (within (start - 1) (omega (arith, inside, run.high, some)))) (run.stop inside);
-      }
+      grind (arith, length-take-le, get_or-take, cases_eq, not_not, not)
 
   -- the test of a side decides it
   pub side_decides : (test : ℕ → Bool) → ((n : ℕ) → Decides (test n) (Is n)) → (side : Bool) (n : ℕ)

@@ -19,49 +19,32 @@ module _ (on : ℕ) (codes : List ℕ) where
       → (codes ≡ take place codes ++ on ∷ drop (place + 1) codes)
       × HasNo on (drop (place + 1) codes)
   cut_at_last place h = (
-    let inside = h.0.high in let here = eqb-true _ _ h.1 in
-        grind (arith, common_steps, drop_more),
+    grind (arith, eqb-true, common_steps, drop_more),
     All-from_get_or (λ code. (code == on) ≡ false) (drop (place + 1) codes) 0 (λ k inside.
-        rw get_or-drop (false_from_ne_true _
-        (h.0.after (place + 1 + k) (omega arith) (omega (arith, length-drop (place + 1) codes))))),
+        rw get_or-drop (grind (arith, false_from_ne_true, length-drop))),
   )
 
 -- the text up to and with an `on` ends in it
 pub ended_at : (on : ℕ) (codes : List ℕ) (place : ℕ) → place < length codes
     → Passes (is_byte on) codes place → IsEndedBy on (take (place + 1) codes)
-ended_at on codes place inside here =
-    inr (take place codes, let is_on = eqb-true _ _ here in grind (arith, common_steps))
+ended_at on codes place inside here = grind (arith, eqb-true, common_steps)
 
 -- a search of the first n codes, and then of those after them, is a search of all of them
 module _ (test : ℕ → Bool) (codes : List ℕ) (n : ℕ) (room : n ≤ length codes) where
   pub first_near : (place : ℕ) → IsFirstByte test (take n codes) (Some place)
       → IsFirstByte test codes (Some place)
-  first_near place near =
-      let short : place < n = omega (arith, near.0.high, length-take-le n codes room) in (
-        record {
-          low = omega arith;
-          high = omega (arith, short);
-          before = λ k low high here. near.0.before k low high
-              (rw (get_or-take n codes k 0 (omega (arith, short))) here);
-        },
-        rw (get_or-take n codes place 0 short) at near.1,
-      )
+  first_near place near = grind (arith, length-take-le, get_or-take)
 
   not_near : IsFirstByte test (take n codes) None → Nowhere (Passes test codes) 0 n
-  not_near none k low high here = none k low (omega (arith, length-take-le n codes room))
-      (rw (get_or-take n codes k 0 high) here)
+  not_near none k low high here = grind (arith, length-take-le, get_or-take)
 
   -- nor is there one before a smaller place
   pub none_nearer : (m : ℕ) → m ≤ n → IsFirstByte test (take n codes) None
       → IsFirstByte test (take m codes) None
-  none_nearer m below none k low high here =
-      let short : k < m = omega (arith, high, length-take-le m codes (omega arith)) in
-      not_near none k low (omega (arith, short)) (rw (get_or-take m codes k 0 short) at here)
+  none_nearer m below none k low high here = grind (arith, length-take-le, not_near, get_or-take)
 
   far_at : (k : ℕ) → n ≤ k → Passes test codes k → Passes test (drop n codes) (k - n)
-  far_at k past here =
-      let same : n + (k - n) ≡ k = omega arith in
-      rw (get_or-drop n codes (k - n) 0, same) here
+  far_at k past here = grind (arith, get_or-drop)
 
   nowhere_before : (end : ℕ) → end ≤ length codes → IsFirstByte test (take n codes) None
       → Nowhere (Passes test (drop n codes)) 0 (end - n) → Nowhere (Passes test codes) 0 end
@@ -78,8 +61,7 @@ module _ (test : ℕ → Bool) (codes : List ℕ) (n : ℕ) (room : n ≤ length
       → IsFirstByte test codes (Some (n + place))
   first_far place near cut =
       let far = rw far_part at cut in
-      let inside : n + place < length codes =
-      omega (arith, far.0.high, length-drop n codes) in (
+      let inside : n + place < length codes = grind (arith, length-drop) in (
         record {
           low = omega arith;
           high = inside;

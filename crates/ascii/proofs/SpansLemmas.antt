@@ -5,10 +5,8 @@ use Rattle.std.specs.List.{flat_map, join_with_byte}
 use Rattle.std.proofs.lemmas.List.Splits.{join_with_byte-slice_split}
 use Rattle.ascii.specs.declared.iter.cursor.Cursor.{Cursor}
 use Rattle.ascii.specs.declared.iter.spans.Ending.TheVariants.{Absent}
-use Rattle.ascii.specs.Found.{HasNo, IsEndedBy, IsSplitAfterLast, IsSplitAtFirst}
-use Rattle.ascii.specs.Found.{IsSplitAtLast}
-use Rattle.ascii.specs.Found.{line_spans, lines_of, part_in, piece_spans, pieces_of}
-use Rattle.ascii.specs.Found.{terminated_line}
+use Rattle.ascii.specs.Found.{HasNo, IsSplitAfterLast, IsSplitAtFirst, IsSplitAtLast, line_spans}
+use Rattle.ascii.specs.Found.{lines_of, part_in, piece_spans, pieces_of, terminated_line}
 use Rattle.ascii.specs.Lines.{Line, LinesOf, line_text}
 use Rattle.ascii.specs.Pieces.{Pieces}
 use Rattle.ascii.specs.Spans.{LineSpansOf, PieceSpans, WithStart, items_of, line_size, piece_size}
@@ -17,9 +15,8 @@ use Rattle.ascii.specs.View.{text_of}
 use Rattle.ascii.proofs.LinesLemmas.{LinesOf-lines_of, LinesOf-only, length-lines_of}
 use Rattle.ascii.proofs.LinesLemmas.{line_text-ended, lines_of-split_at_first, lines_of-last_ended}
 use Rattle.ascii.proofs.LinesLemmas.{lines_of-last_open, lines_of-open, lines_of-some, not_whole}
-use Rattle.ascii.proofs.PiecesLemmas.{Pieces-only, Pieces-pieces_of}
-use Rattle.ascii.proofs.PiecesLemmas.{length-pieces_of, pieces_of-split_at_first}
-use Rattle.ascii.proofs.PiecesLemmas.{pieces_of-split_at_last}
+use Rattle.ascii.proofs.PiecesLemmas.{Pieces-only, Pieces-pieces_of, length-pieces_of}
+use Rattle.ascii.proofs.PiecesLemmas.{pieces_of-split_at_first, pieces_of-split_at_last}
 use Rattle.ascii.proofs.PiecesLemmas.{pieces_of-free, slice_split-some}
 
 -- ---- items one after the other
@@ -34,10 +31,7 @@ pub with_starts-append : {A : Type 0} (size : A → ℕ) (start : ℕ) (xs ys : 
     ≡ with_starts size start xs ++ with_starts size (start + room size xs) ys
 with_starts-append size start [] ys = ap (λ n. with_starts size n ys) (omega arith)
 with_starts-append {A} size start (x ∷ xs) ys =
-    let sum : start + size x + room size xs ≡ start + (size x + room size xs) = omega arith in
-    ap (λ others. record { start = start; item = x } ∷ others)
-    (with_starts-append size (start + size x) xs ys
-    ∙ ap (λ n. with_starts size (start + size x) xs ++ with_starts size n ys) sum)
+    grind (arith, with_starts-append size (start + size x) xs ys)
 
 pub with_starts-last : {A : Type 0} (size : A → ℕ) (start : ℕ) (items : List A) (item : A)
     → with_starts size start (items ++ item ∷ []) ≡ with_starts size start items ++ record
@@ -64,11 +58,8 @@ pub room-pieces : (on : ℕ) (pieces : List (List ℕ)) → pieces ≢ []
     → room piece_size pieces ≡ length (join_with_byte on pieces) + 1
 room-pieces on [] some = absurd (some refl)
 room-pieces on (piece ∷ []) some = omega arith
-room-pieces on (piece ∷ next ∷ others) some = omega (
-  arith,
-  room-pieces on (next ∷ others) (λ none. cc),
-  length-append piece (on ∷ join_with_byte on (next ∷ others)),
-)
+room-pieces on (piece ∷ next ∷ others) some =
+    grind (arith, length-append, room-pieces on (next ∷ others) (λ none. cc))
 
 room-pieces_of : (on : ℕ) (t : List ℕ) → room piece_size (pieces_of on t) ≡ length t + 1
 room-pieces_of on t = room-pieces on (pieces_of on t) (slice_split-some _ t)
@@ -79,11 +70,7 @@ module _ (on : ℕ) (part : WithStart (List ℕ)) where
   pub piece_spans_first : (byte : ℕ) (cut : Cursor × Cursor) (first : WithStart (List ℕ))
       → byte ≡ on → IsSplitAtFirst byte part cut → first ≡ part_in cut.0
       → piece_spans on part ≡ first ∷ piece_spans on (part_in cut.1)
-  piece_spans_first byte cut first byte_is found first_is =
-      let is = subst (λ b. IsSplitAtFirst b part cut) byte_is found in
-      rw (first_is, is.0.before, is.0.behind) (ap (with_starts piece_size part.start)
-      (pieces_of-split_at_first on part.item (text_of cut.0.view) (text_of cut.1.view)
-      is.0.text is.1))
+  piece_spans_first byte cut first byte_is found first_is = grind (arith, pieces_of-split_at_first)
 
   -- the last piece comes after the last separator
   pub piece_spans_last : (byte : ℕ) (cut : Cursor × Cursor) (last : WithStart (List ℕ))
@@ -100,40 +87,26 @@ module _ (on : ℕ) (part : WithStart (List ℕ)) where
   -- a text without the separator is its one piece
   pub piece_spans_free : (byte : ℕ) (whole : WithStart (List ℕ)) → byte ≡ on
       → HasNo byte part.item → whole ≡ part → piece_spans on part ≡ whole ∷ []
-  piece_spans_free byte whole byte_is free whole_is = rw whole_is
-      (ap (with_starts piece_size part.start) (pieces_of-free on part.item (rw byte_is at free)))
+  piece_spans_free byte whole byte_is free whole_is = grind (arith, pieces_of-free)
 
   -- the pieces found are in the relation, and no others are
   pub piece_spans_found : PieceSpans part.start part.item on (piece_spans on part)
-  piece_spans_found =
-      let alone = sym (items-with_starts piece_size part.start (pieces_of on part.item)) in
-      record {
-        pieces = subst (Pieces part.item on) alone (Pieces-pieces_of part.item on);
-        starts = ap (with_starts piece_size part.start) alone;
-      }
+  piece_spans_found = grind (arith, items-with_starts, Pieces-pieces_of)
 
   pub piece_spans_only : (spans : List (WithStart (List ℕ)))
       → PieceSpans part.start part.item on spans → spans ≡ piece_spans on part
-  piece_spans_only spans held = held.starts
-      ∙ ap (with_starts piece_size part.start)
-      (Pieces-only part.item on (items_of spans) held.pieces)
+  piece_spans_only spans held = grind (arith, Pieces-only)
 
   -- there is at most one more than the codes of the text
   pub piece_spans_fit : length (piece_spans on part) ≤ length part.item + 1
-  piece_spans_fit =
-      omega (
-        arith,
-        length-with_starts piece_size part.start (pieces_of on part.item),
-        length-pieces_of on part.item,
-      )
+  piece_spans_fit = grind (arith, length-with_starts, length-pieces_of)
 
 -- ---- lines
 
 -- lines take the room of the text
 pub room-lines : (lines : List Line) → room line_size lines ≡ length (flat_map line_text lines)
 room-lines [] = refl
-room-lines (line ∷ lines) = omega
-    (arith, room-lines lines, length-append (line_text line) (flat_map line_text lines))
+room-lines (line ∷ lines) = grind (arith, length-append, room-lines lines)
 
 pub room-lines_of : (t : List ℕ) → room line_size (lines_of t) ≡ length t
 room-lines_of t = room-lines (lines_of t) ∙ ap length ((LinesOf-lines_of t).joined)
@@ -145,23 +118,14 @@ module _ (part : WithStart (List ℕ)) where
       → first ≡ record { start = cut.0.start; item = terminated_line (text_of cut.0.view) }
       → line_spans part ≡ first ∷ line_spans (part_in cut.1)
   line_spans_first cut first is first_is =
-      let front = text_of cut.0.view in
-      rw (
-        first_is,
-        is.0.before,
-        is.0.behind,
-        ← length-append front (10 ∷ []),
-        ← line_text-ended front,
-      ) (ap (with_starts line_size part.start)
-      (lines_of-split_at_first part.item front (text_of cut.1.view) is.0.text is.1))
+      grind (arith, length-append, line_text-ended, lines_of-split_at_first)
 
   -- a text without LF is one line, or none if it is empty
   pub line_spans_open : (cursor : Cursor) (only : WithStart Line) → HasNo 10 part.item
       → part.item ≢ [] → text_of cursor.view ≡ []
       → only ≡ record { start = part.start; item = record { body = part.item; ending = Absent } }
       → line_spans part ≡ only ∷ line_spans (part_in cursor)
-  line_spans_open cursor only free some none only_is = rw (only_is, none)
-      (ap (with_starts line_size part.start) (lines_of-open part.item free some))
+  line_spans_open cursor only free some none only_is = grind (arith, lines_of-open)
 
   -- a text that is not empty has a line
   pub line_spans_some : part.item ≢ [] → line_spans part ≢ []
@@ -174,10 +138,7 @@ module _ (part : WithStart (List ℕ)) where
       → lines_of part.item ≡ lines_of (text_of cut.0.view) ++ line ∷ []
       → line_spans part ≡ line_spans (part_in cut.0) ++ record
       { start = cut.1.start; item = line } ∷ []
-  line_spans_behind cut line before behind is =
-      let front = text_of cut.0.view in
-      rw (before, behind, ← room-lines_of front) (ap (with_starts line_size part.start) is
-      ∙ with_starts-last line_size part.start (lines_of front) line)
+  line_spans_behind cut line before behind is = grind (arith, room-lines_of, with_starts-last)
 
   -- the last line of a text that ends in LF, which is cut in front of that
   pub line_spans_last_ended : (front : Cursor) (cut : Cursor × Cursor) (last : WithStart Line)
@@ -186,9 +147,7 @@ module _ (part : WithStart (List ℕ)) where
       → last ≡ record { start = cut.1.start; item = terminated_line (text_of cut.1.view) }
       → line_spans part ≡ line_spans (part_in cut.0) ++ last ∷ []
   line_spans_last_ended front cut last ends starts is last_is = rw last_is
-      (line_spans_behind cut (terminated_line (text_of cut.1.view)) (is.before ∙ starts)
-      (rw starts at is.behind) (ap lines_of ends ∙ lines_of-last_ended (text_of front.view)
-      (text_of cut.0.view) (text_of cut.1.view) is.text is.whole is.free))
+      (grind (arith, line_spans_behind, lines_of-last_ended))
 
   -- the last line of a text that does not
   pub line_spans_last_open : (front : List ℕ) (code : ℕ) (cut : Cursor × Cursor)
@@ -201,38 +160,21 @@ module _ (part : WithStart (List ℕ)) where
       }
       → line_spans part ≡ line_spans (part_in cut.0) ++ last ∷ []
   line_spans_last_open front code cut last ends other is last_is =
-      let a = text_of cut.0.view in
-      let some : text_of cut.1.view ≢ [] = λ none. not_whole front code other
-      (subst (IsEndedBy 10) (sym (append-nil a) ∙ (ap (λ b. a ++ b) (sym none)
-      ∙ (sym is.text ∙ ends))) is.whole) in
-      rw last_is (line_spans_behind cut (record { body = text_of cut.1.view; ending = Absent })
-      is.before is.behind
-      (lines_of-last_open part.item a (text_of cut.1.view) is.text is.whole is.free some))
+      grind (arith, not_whole, append-nil, line_spans_behind, lines_of-last_open)
 
   -- the lines found are in the relation, and no others are
   pub line_spans_found : LineSpansOf part.start part.item (line_spans part)
   line_spans_found =
       let alone = sym (items-with_starts line_size part.start (lines_of part.item)) in
-      record {
-        lines = subst (LinesOf part.item) alone (LinesOf-lines_of part.item);
-        starts =
-            ap (with_starts line_size part.start) alone;
-      }
+      grind (arith, LinesOf-lines_of part.item)
 
   pub line_spans_only : (spans : List (WithStart Line)) → LineSpansOf part.start part.item spans
       → spans ≡ line_spans part
-  line_spans_only spans held = held.starts
-      ∙ ap (with_starts line_size part.start) (LinesOf-only part.item (items_of spans) held.lines)
+  line_spans_only spans held = grind (arith, LinesOf-only)
 
   -- there is at most one more than the codes of the text
   pub line_spans_fit : length (line_spans part) ≤ length part.item + 1
-  line_spans_fit =
-      omega (
-        arith,
-        length-with_starts line_size part.start (lines_of part.item),
-        length-lines_of
-            part.item,
-      )
+  line_spans_fit = grind (arith, length-with_starts, length-lines_of)
 
 -- ---- two lists of one text are one
 

@@ -1,7 +1,6 @@
 -- A part of a text that is written over and then cut.
-use Rattle.std.proofs.Common.{◌≡◌, ℕ, ◌+◌, ◌-◌, ◌≤◌, List, ◌++◌, length, take, drop, Ok, refl, sym}
-use Rattle.std.proofs.Common.{ap, ◌∙◌, arith}
-use Rattle.std.proofs.Common.{drop-drop, length-append, length-drop, length-take-le}
+use Rattle.std.proofs.Common.{◌≡◌, ℕ, ◌+◌, ◌-◌, ◌≤◌, List, ◌++◌, length, take, drop, Ok, sym, ap}
+use Rattle.std.proofs.Common.{◌∙◌, arith, drop-drop, length-append, length-drop, length-take-le}
 use Rattle.std.proofs.Math.Seq.{drop-append_seam, take-append_seam}
 use Rattle.std.specs.List.{replace_range}
 use Rattle.ascii.specs.StringState.{EditsInPlace, GrowsTo, StringState}
@@ -12,28 +11,20 @@ module _ (t piece : List ℕ) (start end : ℕ) (order : start + length piece �
   front = take start t ++ piece
 
   front_long : length front ≡ start + length piece
-  front_long = length-append (take start t) piece
-      ∙ ap (λ n. n + length piece) (length-take-le start t (omega (arith, order, inside)))
+  front_long = grind (arith, length-append, length-take-le)
 
   -- what is written over a part, and the text after that part
   spliced : (w : List ℕ) → w ≡ replace_range t start (start + length piece) piece
       → take (start + length piece) w ++ drop end w ≡ replace_range t start end piece
   spliced w is =
-      let whole : w ≡ front ++ drop (length front) t =
-      is ∙ ap (λ n. front ++ drop n t) (sym front_long) in
-      let far : length front + (end - (start + length piece)) ≡ end =
-      omega (arith, order, front_long) in
+      let whole : w ≡ front ++ drop (length front) t = grind (arith, front_long) in
+      let far : length front + (end - (start + length piece)) ≡ end = grind (arith, front_long) in
       let before : take (start + length piece) w ≡ front =
-      ap (λ n. take n w) (sym front_long)
-      ∙ (ap (take (length front)) whole ∙ take-append_seam front (drop (length front) t)) in
+      grind (arith, front_long, take-append_seam) in
       let after : drop end w ≡ drop end t =
       ap (λ n. drop n w) (sym far)
       ∙ (sym (drop-drop (end - (start + length piece)) (length front) w)
-      ∙ (ap (λ r. drop (end - (start + length piece)) (drop (length front) r)) whole
-      ∙ (ap (drop (end - (start + length piece)))
-      (drop-append_seam front (drop (length front) t))
-      ∙ (drop-drop (end - (start + length piece)) (length front) t
-      ∙ ap (λ n. drop n t) far)))) in
+      ∙ (grind (arith, drop-append_seam, drop-drop))) in
       ap (λ r. r ++ drop end w) before ∙ ap (λ r. front ++ r) after
 
   -- two edits in place are one that never fails
@@ -41,21 +32,5 @@ module _ (t piece : List ℕ) (start end : ℕ) (order : start + length piece �
       → EditsInPlace (replace_range t start (start + length piece) piece) old mid
       → EditsInPlace (take (start + length piece) mid.text ++ drop end mid.text) mid new
       → GrowsTo {E = E} sure (replace_range t start end piece) old new (Ok tt)
-  splices {E} {sure} old mid new same written cut = record {
-    ok = cut.text ∙ spliced mid.text written.text;
-    err = tt;
-    full = tt;
-    beyond = tt;
-    nothing = λ _. refl;
-    capacity = omega (arith, written.capacity, cut.capacity);
-    room = omega (
-      arith,
-      ap length (cut.text ∙ spliced mid.text written.text),
-      length-append front (drop end t),
-      front_long,
-      length-drop end t,
-      ap length same,
-      written.room,
-      cut.capacity,
-    );
-  }
+  splices {E} {sure} old mid new same written cut =
+      grind (arith, spliced, length-append, front_long, length-drop)

@@ -1,6 +1,6 @@
 -- Edits of a text leave codes alone.
-use Rattle.std.proofs.Common.{ℕ, ◌≡◌, map, ◌<◌, List, ◌++◌, ◌≤◌, length, take, drop, arith, Err, Ok}
-use Rattle.std.proofs.Common.{[], ap, refl, subst, suc, sym, zero, ◌∙◌}
+use Rattle.std.proofs.Common.{ℕ, ◌≡◌, map, ◌<◌, List, ◌++◌, ◌≤◌, length, take, drop, arith, Err, []}
+use Rattle.std.proofs.Common.{refl, subst, suc, sym, zero}
 use Rattle.std.proofs.Math.Seq.{take-append_seam}
 use Rattle.std.proofs.lemmas.Bool.Decides.{nat_tests}
 use Rattle.std.specs.Str.{IsAscii}
@@ -34,8 +34,7 @@ IsAscii-remove t i a =
 pub IsAscii-grown : {E : Type 0} {sure : ℕ} (to : List ℕ) (old new : StringState)
     (result : Result (Unit {0}) E)
     → GrowsTo sure to old new result → IsAscii old.text → IsAscii to → IsAscii new.text
-IsAscii-grown to old new (Ok done) grows a b = subst IsAscii (sym grows.ok) b
-IsAscii-grown to old new (Err e) grows a b = subst IsAscii (sym grows.err) a
+IsAscii-grown to old new result grows a b = grind arith
 
 -- written again in its place
 pub IsAscii-written : (t w new : List ℕ) → new ≡ refill (length t) t w → IsAscii t → IsAscii w
@@ -46,20 +45,14 @@ IsAscii-written t w new is a b = subst IsAscii (sym is)
 
 -- written whole
 pub refill-same : (t w : List ℕ) → length w ≡ length t → refill (length t) t w ≡ w
-refill-same t w same =
-    ap (λ (n : ℕ). take n (w ++ drop (length w) t)) (sym same) ∙ take-append_seam w (drop (length w) t)
+refill-same t w same = grind (arith, take-append_seam)
 
 -- bytes written again in their place are an edit
 pub EditsInPlace-written : (to w : List ℕ) (held old new : StringState) → held ≡ old
     → new.text ≡ refill (length held.text) held.text w → new.capacity ≡ held.capacity
     → length held.text ≤ held.capacity → length w ≡ length held.text → w ≡ to
     → EditsInPlace to old new
-EditsInPlace-written to w held old new same text capacity room full is =
-    subst (λ (s : StringState). EditsInPlace to s new) same (record {
-      text = text ∙ refill-same held.text w full ∙ is;
-      capacity = capacity;
-      room = subst (λ (n : ℕ). length held.text ≤ n) (sym capacity) room;
-    })
+EditsInPlace-written to w held old new same text capacity room full is = grind (arith, refill-same)
 
 -- the bytes of a buffer after a text in front of them is mapped to codes
 pub IsAscii-mapped : (f : ℕ → ℕ) → ((b : ℕ) → b < 128 → f b < 128)
@@ -76,22 +69,12 @@ no_text bytes i other ascii = omega (arith, other.other, ascii i)
 -- writing rejects what is not a text, and the string is unchanged
 pub Writes-refused : (sure : ℕ) (piece : List ℕ) (held : StringState) (e : Error)
     → length held.text ≤ held.capacity → ¬ (IsAscii piece) → Writes sure piece held held (Err e)
-Writes-refused sure piece held e room none = record {
-  ok = tt;
-  ascii = tt;
-  err = refl;
-  succeeds = λ ascii fits. absurd (none ascii);
-  within = λ ascii fits. absurd (none ascii);
-  nothing = λ empty. absurd (none (rw empty IsAscii-nil));
-  capacity = omega arith;
-  room = room;
-}
+Writes-refused sure piece held e room none = grind (arith, IsAscii-nil)
 
 -- copies of a text are a text
 pub ascii_repeated : (n : ℕ) (t : List ℕ) → IsAscii t → IsAscii (repeat n t)
 ascii_repeated zero t ascii = IsAscii-nil
-ascii_repeated (suc n) t ascii =
-    IsAscii-append t (repeat n t) ascii (ascii_repeated n t ascii)
+ascii_repeated (suc n) t ascii = grind (arith, IsAscii-append, ascii_repeated n t ascii)
 
 -- copies of the empty text are the empty text
 pub nothing_repeated : (n : ℕ) (t : List ℕ) → t ≡ [] → repeat n t ≡ []

@@ -1,6 +1,6 @@
 -- The positions of the first and of the last code that is not in a class cut a text as a trim does.
-use Rattle.std.proofs.Common.{◌≡◌, ℕ, ◌+◌, ◌-◌, ◌<◌, List, [], length, get_or, take, drop, arith}
-use Rattle.std.proofs.Common.{Option, None, Some, MatchOption, unwrap_or, refl}
+use Rattle.std.proofs.Common.{◌≡◌, ℕ, ◌+◌, ◌-◌, ◌<◌, List, length, get_or, take, drop, arith}
+use Rattle.std.proofs.Common.{Option, None, Some, MatchOption, unwrap_or}
 use Rattle.std.specs.Option.{IfSome, option_map_or}
 use Rattle.std.specs.List.{All, slice_get}
 use Rattle.std.proofs.lemmas.Grind.{common_steps}
@@ -20,19 +20,13 @@ module _ (Is : ℕ → Type 0) where
   pub IsSpan-cut : (t : List ℕ) (r : Option ℕ) (start : ℕ)
       → MatchOption r (All Is t) (IsFirstNot Is t 0 (length t))
       → start ≡ unwrap_or r (length t) → IsSpan Is t (take start t) (drop start t)
-  IsSpan-cut t None start all is =
-      let e : drop start t ≡ [] = grind (arith, common_steps) in
-      let whole : take start t ≡ t = grind (arith, common_steps) in
-      record { joined = take-append-drop start t; within = rw whole all; bounded = rw e tt }
+  IsSpan-cut t None start all is = grind (arith, common_steps, take-append-drop)
   IsSpan-cut t (Some i) start first is =
       let inside : i < length t = first.inside in
       record {
         joined = take-append-drop start t;
-        within = All-from_get_or Is (take start t) 0 (λ k h.
-            let short : k < start = grind (arith, common_steps) in
-            rw get_or-take (first.least k (omega arith) (omega arith)));
-        bounded = bounded_at (drop start t) 0 (get_or t i 0) (grind (arith, common_steps))
-            (grind (arith, common_steps)) first.other;
+        within = All-from_get_or Is (take start t) 0 (grind (arith, common_steps, get_or-take));
+        bounded = grind (arith, bounded_at, common_steps);
       }
 
   -- a trim of the start
@@ -46,16 +40,12 @@ module _ (Is : ℕ → Type 0) where
   pub TrimsEnd-cut : (t : List ℕ) (r : Option ℕ) (end : ℕ)
       → MatchOption r (All Is t) (IsLastNot Is t)
       → end ≡ option_map_or (λ last. last + 1) r 0 → TrimsEnd Is t (take end t)
-  TrimsEnd-cut t None end all is =
-      record { cut = t; joined = rw is refl; within = all; bounded = rw is tt }
-  TrimsEnd-cut t (Some i) end last is =
-      let inside : i < length t = last.inside in
-      let long : length (take end t) ≡ i + 1 = grind (arith, common_steps) in
-      record {
-        cut = drop end t;
-        joined = take-append-drop end t;
-        within = All-from_get_or Is (drop end t) 0 (λ k h. rw get_or-drop
-            (last.greatest (end + k) (omega arith) (grind (arith, common_steps))));
-        bounded = bounded_at (take end t) (length (take end t) - 1) (get_or t i 0) (omega arith)
-            (grind (arith, common_steps)) last.other;
-      }
+  TrimsEnd-cut t r end all is =
+      grind (
+        arith,
+        common_steps,
+        take-append-drop end t,
+        All-from_get_or Is (drop end t) 0 (grind (arith, get_or-drop, common_steps)),
+        get_or-drop,
+        bounded_at,
+      )

@@ -1,6 +1,6 @@
 -- At most `n` pieces of a text, of which the n-th holds the rest.
-use Rattle.std.proofs.Common.{◌≡◌, ◌≢◌, ◌<◌, ℕ, zero, suc, List, [], ◌∷◌, ◌++◌}
-use Rattle.std.proofs.Common.{take, refl, sym, ap, ◌∙◌, arith, Option, None, Some}
+use Rattle.std.proofs.Common.{◌≡◌, ◌≢◌, ◌<◌, ℕ, zero, suc, List, [], ◌∷◌, ◌++◌, take, refl, sym, ap}
+use Rattle.std.proofs.Common.{◌∙◌, arith, Option, None, Some}
 use native.Mathlib.Numerals.{unary_clauses}
 use Rattle.std.specs.List.{Contains, join_with_byte}
 use Rattle.std.proofs.Math.Seq.{take-nil}
@@ -8,8 +8,7 @@ use Rattle.std.proofs.lemmas.List.Elements.{All-cons, All-head, All-nil, All-tai
 use Rattle.ascii.specs.Found.{pieces_of, pieces_up_to}
 use Rattle.ascii.specs.Cuts.{IsRemainder}
 use Rattle.ascii.specs.TheCuts.{at_code}
-use Rattle.ascii.specs.Pieces.{IsRemainderUpTo, IteratesPiecesUpTo, Pieces}
-use Rattle.ascii.specs.Pieces.{PiecesUpTo, Remaining}
+use Rattle.ascii.specs.Pieces.{IsRemainderUpTo, IteratesPiecesUpTo, Pieces, PiecesUpTo, Remaining}
 use Rattle.ascii.specs.Steps.{KeepsOn, YieldsFirstAnd}
 use Rattle.ascii.specs.Parts.{WithStart}
 use Rattle.ascii.specs.View.{text_of}
@@ -30,25 +29,14 @@ module _ (on : ℕ) where
 
   join-more : (piece : List ℕ) (pieces : List (List ℕ)) → pieces ≢ []
       → join_with_byte on (piece ∷ pieces) ≡ piece ++ on ∷ join_with_byte on pieces
-  join-more piece [] some = absurd (some refl)
-  join-more piece (next ∷ pieces) some = refl
+  join-more piece pieces some = grind arith
 
   -- the pieces found are in the relation
   pub up_to_found : (n : ℕ) (text : List ℕ) (pieces : List (List ℕ)) → Pieces text on pieces
       → PiecesUpTo n text on (pieces_up_to on n pieces)
   up_to_found n text [] whole = absurd (whole.some refl)
-  up_to_found zero text (piece ∷ pieces) whole = record {
-    count = omega arith;
-    free = All-nil _;
-    some = λ more. absurd (omega arith);
-    joined = λ more. absurd (omega arith);
-  }
-  up_to_found (suc zero) text (piece ∷ pieces) whole = record {
-    count = omega arith;
-    free = All-nil _;
-    some = λ more none. cc;
-    joined = λ more. whole.joined;
-  }
+  up_to_found zero text (piece ∷ pieces) whole = grind (arith, All-nil)
+  up_to_found (suc zero) text (piece ∷ pieces) whole = grind (arith, All-nil)
   up_to_found (suc (suc n)) text (piece ∷ []) whole = record {
     count = omega arith;
     free = simp unary_clauses (All-cons (λ (p : List ℕ). ¬ (Contains p on)) piece (take n [])
@@ -66,8 +54,7 @@ module _ (on : ℕ) where
         free = simp unary_clauses (All-cons Free piece (take n (pieces_up_to on (suc n) rest))
             (All-head Free piece rest whole.free) (simp unary_clauses at after.free));
         some = λ more none. cc;
-        joined = λ more. join-more piece (pieces_up_to on (suc n) rest) (after.some (omega arith))
-            ∙ (ap (λ t. piece ++ on ∷ t) (after.joined (omega arith)) ∙ whole.joined);
+        joined = grind (arith, join-more);
       }
 
   -- no other list is in the relation
@@ -84,9 +71,7 @@ module _ (on : ℕ) where
       let Free = λ (p : List ℕ). ¬ (Contains p on) in
       let free = HasNo-from_absent on piece
       (All-head Free piece (take n []) (simp unary_clauses at held.free)) in
-      sym (ap (λ t. pieces_up_to on (suc (suc n)) (pieces_of on t))
-      (sym (held.joined (omega arith)))
-      ∙ ap (pieces_up_to on (suc (suc n))) (pieces_of-free on piece free))
+      grind (arith, pieces_of-free)
   up_to_only (suc (suc n)) text (piece ∷ next ∷ others) held =
       let Free = λ (p : List ℕ). ¬ (Contains p on) in
       let rest = next ∷ others in
@@ -99,9 +84,7 @@ module _ (on : ℕ) where
         some = λ more none. cc;
         joined = λ more. refl;
       }) in
-      ap (λ ps. piece ∷ ps) others_up_to
-      ∙ ap (pieces_up_to on (suc (suc n))) (sym (pieces_of-split_at_first on text piece after
-      (sym (held.joined (omega arith))) free))
+      grind (arith, pieces_of-split_at_first)
 
   -- the pieces found are the only list in the relation
   pub up_to_iterates : (n : ℕ) (text : List ℕ) (pieces : List (List ℕ)) → Pieces text on pieces
@@ -128,26 +111,16 @@ module _ (on count : ℕ) (pieces : List (List ℕ)) (rest left_rest : Option (W
     (is : record { on = on; items = pieces_up_to on count pieces; rest = left_rest } ≡ old) where
   -- no pieces are left if no piece may come
   pub up_to_none : count ≡ 0 → old.items ≡ []
-  up_to_none none = sym (ap (λ left. left.items) is)
-      ∙ (ap (λ n. pieces_up_to on n pieces) none ∙ up_to-zero on pieces)
+  up_to_none none = grind (arith, up_to-zero)
 
   -- nothing is yielded if no piece may come
   pub up_to_done : count ≡ 0 → YieldsFirstAnd {A = AsciiStr} text_of (λ left. left.items)
       KeepsOn old None old
-  up_to_done none =
-      ((up_to_none none, up_to_none none), refl)
+  up_to_done none = grind (arith, up_to_none)
 
   -- the rest is yielded if one piece may come
   pub up_to_rest : (result : Option AsciiStr) → count ≡ 1
       → IsRemainder at_code (record { on = on; items = pieces; rest = rest }) result
       → (now : Option (WithStart (List ℕ))) → YieldsFirstAnd text_of (λ left. left.items) KeepsOn old result
       (record { on = on; items = pieces_up_to on 0 pieces; rest = now })
-  up_to_rest None one none now =
-      let empty : old.items ≡ [] =
-      sym (ap (λ left. left.items) is) ∙ ap (pieces_up_to on count) none in
-      ((empty, up_to-zero on pieces), ap (λ left. left.on) is)
-  up_to_rest (Some view) one left now =
-      let last : old.items ≡ text_of view ∷ [] =
-      sym (ap (λ left. left.items) is)
-      ∙ (ap (λ n. pieces_up_to on n pieces) one ∙ up_to-one on (text_of view) pieces left.1) in
-      (rw (up_to-zero on pieces, last) refl, ap (λ left. left.on) is)
+  up_to_rest result one none now = grind (arith, up_to-zero, up_to-one)

@@ -1,5 +1,6 @@
 -- The walk: the search carries the source, and its answer decides the `Result`. Assumes `Logic`.
-use mathlib.Core.Path.{◌≡◌, refl, ap, subst}
+use Rattle.std.proofs.Common.{arith}
+use mathlib.Core.Path.{◌≡◌, refl, ap}
 use mathlib.Core.List.{List, [], ◌∷◌}
 use Prim.Native.Nat.{ℕ}
 use mathlib.Core.Bool.{true, false}
@@ -69,8 +70,7 @@ slice_ascii_mut_spec 𝓤 𝓛 𝓜 𝓡 wired =
     proved 𝓛 f.ended stayed c 𝓜 𝓡 (
       Goes-spent_slice 𝓛 1 (0 ∷ []) tt (plain (λ _. u8)),
       (Goes-dropped 𝓛 1 (plain (λ _. range.the_row)) yes (λ κs x w. refl), tt),
-    )
-    f.Key.name code.function (code.unfolded 𝓤 𝓛.H 𝓜 𝓡 wired)
+    ) f.Key.name code.function (code.unfolded 𝓤 𝓛.H 𝓜 𝓡 wired)
     (λ κs. (mut_slice_vals, ((λ r. range_laws.the_told.val r ∷ []), tt)))
     (λ κs. (mut_slice_Tells (named 0) κs.0 u8, (range_laws.the_told.tells, tt)))
     (λ κs qs bounds a _ are.
@@ -79,46 +79,34 @@ slice_ascii_mut_spec 𝓤 𝓛 𝓜 𝓡 wired =
     let G = triple_of 𝓛 g.signature (g.spec 𝓛 𝓜.mem 𝓡.returns) in
     let z : G.Ghost =
     ((κs, qs, bounds, a, (mut_slice_vals s, (range_laws.the_told.val r ∷ [], tt))), tt) in
-    qed 𝓛 (raw (G.pre z) ∷ []) ∵ enter ! _ _ _ _ _ $
-    alloc_all !
-    (λ l. pass_all ! refl (
+    qed 𝓛 (raw (G.pre z) ∷ []) ∵ enter ! _ _ _ _ _ $ alloc_all ! (λ l. pass_all ! refl (
       (tt, (tt, (record { fits = are.0.0.1.0 }, tt))),
-      (range_laws.the_row_laws.lawful 𝓛).typed r _
-          are.1.0,
-    ) $
-    sets ! (addr !
+      grind arith,
+    ) $ sets ! (addr !
     (from ! (fld ! refl (hop ! (look_in_at ! 1 (sub ! 0 refl (whole !))) (stop !))))) refl
-    (tt, tt) $
-    sets ! (agg !
-    (and_then ! (get ! refl)
+    (tt, tt) $ sets ! (agg ! (and_then ! (get ! refl)
     (and_then ! (get_in ! (fld ! refl (stop !)) (sub ! 1 refl (whole !))) (no_more !)))) refl
-    (tt, (tt, (record { fits = are.0.0.1.0 }, tt))) $
-    calls_at ! (framed 𝓤 𝓛.H 𝓜 𝓣) G
+    (tt, (tt, (record { fits = are.0.0.1.0 }, tt))) $ calls_at ! (framed 𝓤 𝓛.H 𝓜 𝓣) G
     (met 𝓤 𝓛 𝓜 𝓡 (code.calls-ascii::bytes_mut::search 𝓡.env wired)) z
     (and_then ! (get ! refl) (and_then ! (get ! refl) (no_more !))) (λ v.
     let lft = named_lft 1 0 tt κs in
     let Row = S.the_row lft in
     use1 𝓛 (later
     (some (λ (d : SearchOutcome). (raw (alive 𝓛 g.signature κs qs) ⊛ ‵ (Row.own_val d (v ∷ []))) ⊛
-    some (λ (ws : _). ‵ (lasts g.ended κs a ws) ⊛
-    raw (fact 𝓤 (d.is_refused ≡ false
+    some (λ (ws : _). ‵ (lasts g.ended κs a ws) ⊛ raw (fact 𝓤 (d.is_refused ≡ false
     → Fits r n × IsViewOf s.now (start_of r) (end_of r n) d.view)) ⊛
     raw (fact 𝓤 (d.is_refused ≡ true
     → IsRejected s.now r (record { valid_up_to = d.valid_up_to }))) ⊛
     raw (fact 𝓤 (whole_source_of d.view ≡ s.now)) ⊛
-    raw (fact 𝓤 (borrow_of d.view ≡ s.ghost_name)))))) (id⊢ 𝓤 _) $
-    await ! tt $ pick !
+    raw (fact 𝓤 (borrow_of d.view ≡ s.ghost_name)))))) (id⊢ 𝓤 _) $ await ! tt $ pick !
     (λ d. split ! $ move ! (1 ∷ []) $ pick !
     (λ ws. split ! $ drop ! $ split ! $ heard ! _ (λ accepted.
-    split ! $ heard ! _
-    (λ refused. split ! $ heard ! _
+    split ! $ heard ! _ (λ refused. split ! $ heard ! _
     (λ same. heard ! _ (λ lender. split ! $ move ! (1 ∷ []) $
     -- [what was found; the tokens]
     peeks ! Row _ (shows 𝓛 Row) d (v ∷ []) (λ is.
     let value = (found_laws.lowers lft).val_is d (v ∷ []) is in
-    let typed : Typed Row.mir (found_laws.lowered d ∷ []) =
-    subst (Typed Row.mir) value
-    (((found_laws.the_row_laws lft).lawful 𝓛).typed d (v ∷ []) is) in
+    let typed : Typed Row.mir (found_laws.lowered d ∷ []) = grind arith in
     let Out = RS.the_row (V.the_row lft) E.the_row in
     let e : AsAsciiStrError = record { valid_up_to = d.valid_up_to } in
     let ev = vstruct (vcons (vint w64 d.valid_up_to) vnil) in
@@ -126,9 +114,7 @@ slice_ascii_mut_spec 𝓤 𝓛 𝓜 𝓡 wired =
     sets ! (of_opd ! (get_in ! (fld ! refl (stop !)) (sub ! 1 refl (whole !)))) refl
     (tt, typed.0.1.1.0) $
     use1 𝓛 (‵ ((V.the_row lft).own_val d.view (view_laws.lowered d.view ∷ [])))
-    (found_view 𝓛 lft d (v ∷ [])) $
-    first ! $ branches ! (get ! refl)
-    (λ is_refused.
+    (found_view 𝓛 lft d (v ∷ [])) $ first ! $ branches ! (get ! refl) (λ is_refused.
     use1 𝓛 (later (‵ (fres d.view.bytes.ghost_name (Bytes.coded.code d.view.bytes.now))))
     (given_up 𝓛 lft d.view (view_laws.lowered d.view ∷ [])) $ await ! tt $
     use1 𝓛 (‵ (FinalSource s (Err e))) (rests_err 𝓛 s d.view e lender same) $
@@ -146,8 +132,7 @@ slice_ascii_mut_spec 𝓤 𝓛 𝓜 𝓡 wired =
     (err_of 𝓛 (V.the_row lft) E.the_row e ev) $
     nothing ! $ nothing ! $ fjoin ! $ nothing ! $ fjoin ! $ move ! (3 ∷ 0 ∷ 1 ∷ 2 ∷ []) $
     by ! (leaves 𝓛 f.ended stayed c z (live 1 (of_list (ev ∷ []))) (Err e) (tt, (tt, tt))
-    (tt, (tt, tt))))
-    (λ is_accepted. skips ! $ exec ! 𝓣.C 𝓣.Λ (env code.Mir.locals l) code.Mir.t-6
+    (tt, (tt, tt)))) (λ is_accepted. skips ! $ exec ! 𝓣.C 𝓣.Λ (env code.Mir.locals l) code.Mir.t-6
     (at_ret _ (W.post z)) $
     sets ! (of_opd ! (get_in ! (fld ! refl (stop !)) (sub ! 0 refl (whole !)))) refl
     (tt, typed.0.1.0) $
@@ -155,8 +140,7 @@ slice_ascii_mut_spec 𝓤 𝓛 𝓜 𝓡 wired =
     (tt, (record { fits = lit< tt }, (typed.0.1.0, tt))) $
     returns ! (look_at ! 0 refl) $ free_all ! refl $
     use1 𝓛 (‵ (Out.own_val (Ok d.view) (live 0 (of_list (view_laws.lowered d.view ∷ [])) ∷ [])))
-    (ok_of 𝓛 (V.the_row lft) E.the_row d.view (view_laws.lowered d.view)) $
-    move ! (1 ∷ 0 ∷ []) $
+    (ok_of 𝓛 (V.the_row lft) E.the_row d.view (view_laws.lowered d.view)) $ move ! (1 ∷ 0 ∷ []) $
     use0 𝓛 (‵ (FinalSource s (Ok d.view))) (rests_ok 𝓛 s d.view lender) $
     use0 𝓛 (raw (fact 𝓤 _)) (fact_i 𝓤 _ _ lender) $ join ! $
     use0 𝓛 (raw (fact 𝓤 _)) (fact_i 𝓤 _ _ (accepted (is_false _ is_accepted))) $ join ! $

@@ -1,4 +1,4 @@
-use Rattle.std.proofs.Common.{◌<◌, ◌++◌, ◌∷◌, [], length, arith, refl, zero, suc}
+use Rattle.std.proofs.Common.{◌<◌, ◌++◌, ◌∷◌, [], length, arith}
 use Rattle.std.proofs.lemmas.List.{take_more_set}
 use Rattle.std.proofs.lemmas.Grind.{common_steps}
 use Rattle.std.proofs.lemmas.Str.{IsAscii-append}
@@ -14,11 +14,9 @@ loop-at-preserved g c =
     let inside : l.at < length l.codes = omega arith in
     record {
       items = l.invariant.items ++ ch ∷ [];
-      gave = yields_both g.I.Iterator.next_gives l.invariant.items (ch ∷ []) _ l.iter _
-          l.invariant.gave (c.next.new.self, steps, refl);
+      gave = grind (arith, yields_both);
       start = rw (take_more_set l.codes l.at c.as_byte.result inside) (grind (arith, common_steps));
-      ascii = rw (take_more_set l.codes l.at c.as_byte.result inside) (IsAscii-append _ _
-          l.invariant.ascii (elim [ zero ↦ c.as_byte.ensures.small | suc i ↦ omega arith ]));
+      ascii = grind (arith, take_more_set, IsAscii-append);
       can = nearer.0;
       ends = nearer.1;
       fewer = omega (arith, nearer.2);

@@ -1,4 +1,4 @@
-use Rattle.std.proofs.Common.{◌≡◌, ◌+◌, ◌-◌, length, get_or, arith, subst, sym, ◌∙◌}
+use Rattle.std.proofs.Common.{◌≡◌, ◌+◌, ◌-◌, length, arith, subst, sym, ◌∙◌}
 use Rattle.std.proofs.lemmas.Bool.{false≢true}
 use Rattle.ascii.specs.declared.iter.spans.Endings.TheVariants.{CrLfStrict}
 use Rattle.ascii.specs.Endings.{FreeUpTo, IsFirstStop}
@@ -24,11 +24,8 @@ returns-then-place-text c =
     let next : place + 2 ≡ place + 1 + 1 = omega arith in
     let back : place + 1 - 1 ≡ place = omega arith in (
       omega (arith, c.if-place-text.true),
-      subst (IsFirstStop CrLfStrict text) (sym next)
-          (stop_after_cr text (place + 1) (omega arith)
-          (subst (λ j. get_or text j 0 ≡ 13) (sym back)
-          (break_is_cr _ first.1 c.if-text-place-eq10.false))
-          (at_break text c.args.searched c.requires.free
+      subst (IsFirstStop CrLfStrict text) (sym next) (stop_after_cr text (place + 1) (omega arith)
+          (grind (arith, break_is_cr)) (at_break text c.args.searched c.requires.free
           (λ is. false≢true (sym c.if-follows_cr.false ∙ c.follows_cr.ensures.1 is)) place first.0
           c.if-text-place-eq10.false)),
     )

@@ -1,6 +1,5 @@
-use Rattle.std.proofs.Common.{◌-◌, length, refl, sym, ◌∙◌}
+use Rattle.std.proofs.Common.{◌-◌, length, refl, sym, ◌∙◌, take}
 use Rattle.std.proofs.lemmas.Bool.{false≢true}
-use Rattle.std.proofs.Common.{take}
 use Rattle.ascii.proofs.LinesByLemmas.{closed_line, open_line}
 use Rattle.ascii.proofs.endings.split_cr_lf.Goals as goal
 

@@ -1,7 +1,6 @@
-use Rattle.std.proofs.Common.{rules}
+use Rattle.std.proofs.Common.{arith}
 use Rattle.ascii.proofs.JsonLemmas.{one_byte_below}
 use Rattle.ascii.proofs.json.char_from_json.Goals as goal
 
 pub from_ascii_unchecked-requires : goal.from_ascii_unchecked-requires
-from_ascii_unchecked-requires c =
-    one_byte_below _ c.as_bytes.ensures.utf8 (search rules)
+from_ascii_unchecked-requires c = grind (arith, one_byte_below)

@@ -1,12 +1,11 @@
-use Rattle.std.proofs.Common.{of_calls, ◌≡◌, cond, Bool, true, false, refl, arith}
+use Rattle.std.proofs.Common.{of_calls, ◌≡◌, cond, Bool, true, arith}
 use Rattle.std.proofs.lemmas.Grind.{common_steps}
 use Rattle.ascii.proofs.RetainLemmas.{keeps_next, keeps_none}
 use mir.Val.{bool_byte}
 use Rattle.ascii.proofs.retain.move_kept.Goals as goal
 
 count : (b : Bool) → cond b 1 0 ≡ bool_byte b
-count true = refl
-count false = refl
+count b = grind arith
 
 pub loop-at-init : goal.loop-at-init
 loop-at-init g c = (keeps_none _ _ _, c.requires.ascii, c.requires.callable)

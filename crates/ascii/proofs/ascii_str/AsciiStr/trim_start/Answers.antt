@@ -1,7 +1,6 @@
-use Rattle.ascii_base.specs.Class.{IsWhitespace}
+use Rattle.std.proofs.Common.{arith}
 use Rattle.ascii.proofs.TrimLemmas.{TrimsStart-cut}
 use Rattle.ascii.proofs.ascii_str.AsciiStr.trim_start.Goals as goal
 
 pub returns : goal.returns
-returns c =
-    TrimsStart-cut IsWhitespace _ _ _ c.first_not_whitespace.ensures c.unwrap_or-start.ensures
+returns c = grind (arith, TrimsStart-cut)

@@ -1,4 +1,4 @@
-use Rattle.std.proofs.Common.{◌≡◌, ◌∷◌, ◌++◌, [], ap, append-nil, arith, length, length-append, refl, rules}
+use Rattle.std.proofs.Common.{◌≡◌, ◌∷◌, ◌++◌, [], append-nil, arith, length-append, refl, rules}
 use Rattle.std.proofs.lemmas.Result.{err_from_is_err_and}
 use Rattle.std.specs.Iterator.{Yields}
 use Rattle.std.specs.List.{flat_map}
@@ -14,13 +14,7 @@ returns-in_err-push_str-clause-full g c =
       c.in-Some.first ∷ [],
       c.next.new.self,
       (c.next.new.self, c.in-Some.ensures.steps, refl),
-      omega (
-        arith,
-        c.in_err-push_str.ensures.beyond,
-        ap length c.new-string.ensures.text,
-        length-append c.new-string.result.text first,
-        ap length (append-nil first),
-      ),
+      grind (arith, length-append, append-nil),
     )
 
 pub returns-in_err-push_str-2-clause-full : goal.returns-in_err-push_str-2-clause-full
@@ -36,12 +30,7 @@ returns-in_err-push_str-2-clause-full g c =
     rw p.1 (joined_past steps separator g.B.Buffer.sure c.args.iter c.next.new.self
     c.loop-piece.piece-iterator c.next-in-loop-piece.new.self c.in-Some.first c.in-Some-piece.piece
     c.loop-piece.yielded c.in-Some.ensures.steps others c.in-Some-piece.ensures.steps
-    (omega (
-      arith,
-      c.in_err-push_str-2.ensures.beyond,
-      ap length text,
-      length-append c.loop-piece.string.text separator,
-    )))
+    (grind (arith, length-append)))
 
 pub returns-in_err-push_str-3-clause-full : goal.returns-in_err-push_str-3-clause-full
 returns-in_err-push_str-3-clause-full g c =
@@ -57,14 +46,7 @@ returns-in_err-push_str-3-clause-full g c =
     rw p.1 (joined_past steps separator g.B.Buffer.sure c.args.iter c.next.new.self
     c.loop-piece.piece-iterator c.next-in-loop-piece.new.self c.in-Some.first c.in-Some-piece.piece
     c.loop-piece.yielded c.in-Some.ensures.steps others c.in-Some-piece.ensures.steps
-    (omega (
-      arith,
-      c.in_err-push_str-3.ensures.beyond,
-      ap length text,
-      ap length c.in_ok-push_str-2.ensures.ok,
-      length-append c.loop-piece.string.text separator,
-      length-append c.push_str-in-loop-piece.new.self.text piece,
-    )))
+    (grind (arith, length-append)))
 
 pub returns-clause-text : goal.returns-clause-text
 returns-clause-text g c =
@@ -75,13 +57,6 @@ returns-clause-text g c =
     ++ flat_map (λ view. text_of c.args.separator ++ text_of view) c.loop-piece.yielded =
     search rules in (
       c.in-Some.first ∷ c.loop-piece.yielded,
-      (
-        c.next-in-loop-piece.new.self,
-        (
-          c.loop-piece.piece-iterator,
-          (c.next.new.self, c.in-Some.ensures.steps, others),
-          c.in-None.ensures.steps,
-        ),
-      ),
+      grind arith,
       text,
     )

@@ -21,8 +21,7 @@ returns-then-count-lt-GATHERED-clause-extends g c =
 pub loop-iter-preserved : goal.loop-iter-preserved
 loop-iter-preserved g c =
     let size : length c.gather-count.new.codes ≡ 64 = search rules in
-    let full : c.gather-count.result ≡ length c.gather-count.new.codes =
-    omega (arith, c.gather-count.ensures.fills.inside) in
+    let full : c.gather-count.result ≡ length c.gather-count.new.codes = grind arith in
     let nearer = c.gather-count.ensures.nearer (omega arith) full in
     record {
       so_far = gathers_more g.I.Iterator.next_gives code_of _ _ _ _ _ _ _ _

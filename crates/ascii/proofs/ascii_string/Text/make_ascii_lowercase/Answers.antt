@@ -1,14 +1,9 @@
-use Rattle.std.proofs.Common.{rules, subst, sym}
-use Rattle.std.specs.Str.{IsAscii}
-use Rattle.ascii_base.specs.Case.{lower_image}
+use Rattle.std.proofs.Common.{rules, arith}
 use Rattle.ascii.proofs.TextLemmas.{EditsInPlace-written, IsAscii-mapped, lower_image-below}
 use Rattle.ascii.proofs.ascii_string.Text.make_ascii_lowercase.Goals as goal
 
 pub invariant_of-self : goal.invariant_of-self
-invariant_of-self g c =
-    subst IsAscii (sym (g.met.B.Buffer.with_text _ _))
-    (IsAscii-mapped lower_image lower_image-below _ _ _ _ c.lower_in_place.ensures
-    c.bytes_mut.ensures.value c.self.invariant)
+invariant_of-self g c = grind (arith, IsAscii-mapped, lower_image-below)
 
 pub returns : goal.returns
 returns g c =

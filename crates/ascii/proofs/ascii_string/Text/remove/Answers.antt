@@ -1,6 +1,6 @@
+use Rattle.std.proofs.Common.{arith}
 use Rattle.ascii.proofs.TextLemmas.{IsAscii-remove}
 use Rattle.ascii.proofs.ascii_string.Text.remove.Goals as goal
 
 pub invariant_of-self : goal.invariant_of-self
-invariant_of-self g c =
-    rw c.remove_byte.ensures.edits.text (IsAscii-remove _ _ c.self.invariant)
+invariant_of-self g c = grind (arith, IsAscii-remove)

@@ -1,14 +1,10 @@
-use Rattle.std.proofs.Common.{rules, subst, sym}
+use Rattle.std.proofs.Common.{rules, arith}
 use Rattle.std.proofs.lemmas.Str.Ascii.{IsAscii-set}
-use Rattle.std.specs.Str.{IsAscii}
 use Rattle.ascii.proofs.TextLemmas.{EditsInPlace-written, IsAscii-written}
 use Rattle.ascii.proofs.ascii_string.Text.set.Goals as goal
 
 pub invariant_of-self : goal.invariant_of-self
-invariant_of-self g c =
-    IsAscii-written _ _ _ (g.met.B.Buffer.with_text _ _) c.self.invariant
-    (IsAscii-set _ _ _ (subst IsAscii (sym c.bytes_mut.ensures.value) c.self.invariant)
-    c.as_byte.ensures.small)
+invariant_of-self g c = grind (arith, IsAscii-written, IsAscii-set)
 
 pub returns : goal.returns
 returns g c =

@@ -9,8 +9,4 @@ loop-end-preserved g c = rw c.in_ok-push.ensures.items
     (StepsAt-by _ _ _ _ _ _ c.take_end.ensures.front c.take_end.ensures.back))
 
 pub returns-clause-answers : goal.returns-clause-answers
-returns-clause-answers g c = (
-  c.loop-end.items,
-  AnswersTo-all _ c.args.items c.loop-end.items c.args.script.now
-      c.loop-end.end-index c.loop-end.answers.items (omega arith) c.loop-end.invariant,
-)
+returns-clause-answers g c = grind (arith, AnswersTo-all)

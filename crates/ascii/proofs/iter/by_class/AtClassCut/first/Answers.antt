@@ -1,4 +1,4 @@
-use Rattle.std.proofs.Common.{ap, arith, subst, sym, ◌∙◌}
+use Rattle.std.proofs.Common.{ap, arith, subst, sym, ◌∙◌, length-take-le}
 use Rattle.ascii.specs.ByClass.{IsOutside}
 use Rattle.ascii.specs.View.{text_of}
 use Rattle.ascii.proofs.ByClassLemmas.{first_is_outside, first_piece_by, only_is_outside}
@@ -6,7 +6,6 @@ use Rattle.ascii.proofs.ByClassLemmas.{only_piece_by}
 use Rattle.ascii.proofs.LeftLemmas.{after_place}
 use Rattle.ascii.specs.Parts.{part_end}
 use Rattle.ascii.specs.Found.{part_in}
-use Rattle.std.proofs.Common.{length, length-take-le}
 use Rattle.ascii.proofs.iter.by_class.AtClassCut.first.Goals as goal
 
 pub returns-then-end-bytes-clause-first : goal.returns-then-end-bytes-clause-first
@@ -46,12 +45,7 @@ returns-clause-item g c = (
 )
 
 pub returns-clause-marks : goal.returns-clause-marks
-returns-clause-marks g c =
-    let high = c.first_piece-end.ensures.end.high in (
-      rw c.from.ensures.text
-          (c.first_piece-end.ensures.marks (omega (arith, high, c.if-end-bytes.false))),
-      rw c.from.ensures.text c.last_marks_from-back.ensures,
-    )
+returns-clause-marks g c = grind arith
 
 pub returns-then-end-bytes-clause-left : goal.returns-then-end-bytes-clause-left
 returns-then-end-bytes-clause-left g c = ap part_end c.piece.ensures.piece
@@ -63,9 +57,4 @@ returns-clause-left g c =
     let high = c.first_piece-end.ensures.end.high in
     after_place 1 (part_in c.args.part) _ (part_in c.from.result) _
     (omega (arith, high, c.if-end-bytes.false)) c.from.ensures.start c.from.ensures.text
-    (omega (
-      arith,
-      ap part_end c.piece-2.ensures.piece,
-      c.to.ensures.start,
-      ap length c.to.ensures.text ∙ length-take-le end text high,
-    ))
+    (grind (arith, length-take-le))

@@ -1,11 +1,10 @@
-use Rattle.std.proofs.Common.{ap, arith, subst, sym, ◌∙◌}
+use Rattle.std.proofs.Common.{ap, arith, subst, sym, ◌∙◌, ◌-◌}
 use Rattle.ascii.specs.ByClass.{IsOutside}
 use Rattle.ascii.specs.View.{text_of}
 use Rattle.ascii.proofs.ByClassLemmas.{last_is_outside, last_piece_by, only_back_outside}
 use Rattle.ascii.proofs.ByClassLemmas.{only_piece_back}
 use Rattle.ascii.proofs.LeftLemmas.{before_place}
 use Rattle.ascii.specs.Found.{part_in}
-use Rattle.std.proofs.Common.{◌-◌}
 use Rattle.ascii.proofs.iter.by_class.AtClassCutBack.last.Goals as goal
 
 pub returns-then-start-eq0-clause-last : goal.returns-then-start-eq0-clause-last
@@ -45,11 +44,7 @@ returns-clause-item g c = (
 )
 
 pub returns-clause-marks : goal.returns-clause-marks
-returns-clause-marks g c = (
-  rw c.to.ensures.text c.marks_to-front.ensures,
-  rw c.to.ensures.text
-      (c.last_piece-start.ensures.marks (omega (arith, c.if-start-eq0.false))),
-)
+returns-clause-marks g c = grind arith
 
 pub returns-then-start-eq0-clause-left : goal.returns-then-start-eq0-clause-left
 returns-then-start-eq0-clause-left g c = ap (λ one. one.start) c.piece.ensures.piece
@@ -59,10 +54,4 @@ returns-clause-left g c =
     let start = c.last_piece-start.result.0 in
     let high = c.last_piece-start.ensures.start.high in
     before_place 1 (part_in c.args.part) _ (part_in c.to.result) (start - 1)
-    (omega (arith, high)) c.to.ensures.start c.to.ensures.text
-    (omega (
-      arith,
-      ap (λ one. one.start) c.piece-2.ensures.piece,
-      c.from.ensures.start,
-      c.if-start-eq0.false,
-    ))
+    (omega (arith, high)) c.to.ensures.start c.to.ensures.text (grind arith)

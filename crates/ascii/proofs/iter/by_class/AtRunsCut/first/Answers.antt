@@ -1,4 +1,4 @@
-use Rattle.std.proofs.Common.{ap, subst, sym, ◌∙◌, drop, eqb, not, arith}
+use Rattle.std.proofs.Common.{subst, eqb, not, arith, length-drop, length-take-le}
 use Rattle.ascii_base.specs.Bytes.{IsOnSide}
 use Rattle.ascii.specs.ByClass.{side_test}
 use Rattle.ascii.specs.Words.{IsWord}
@@ -6,9 +6,6 @@ use Rattle.ascii.specs.View.{text_of}
 use Rattle.ascii.proofs.ByClassLemmas.{first_is_within, first_word_within, no_word}
 use Rattle.ascii.proofs.RunLemmas.{ends_gap, ends_word, side_decides}
 use Rattle.ascii.proofs.LeftLemmas.{after_place}
-use Rattle.ascii.specs.Parts.{part_end}
-use Rattle.ascii.specs.Found.{part_in}
-use Rattle.std.proofs.Common.{length, length-drop, length-take-le}
 use Rattle.ascii.proofs.iter.by_class.AtRunsCut.first.Goals as goal
 
 pub returns-in_err-found-clause-first : goal.returns-in_err-found-clause-first
@@ -43,8 +40,7 @@ returns-clause-item g c =
     let Is = g.C.Class.is in
     let inside = not (eqb g.row.INSIDE 0) in
     let run = c.in_ok-found.ensures in (
-      subst (IsWord (IsOnSide Is (not inside))) (sym (ap (λ span. span.item) c.piece.ensures.piece
-          ∙ (c.from.ensures.text ∙ ap (drop c.in_ok-found.found.start) c.to.ensures.text)))
+      subst (IsWord (IsOnSide Is (not inside))) (grind arith)
           (first_is_within (IsOnSide Is (not inside)) (side_test g.C.Class.test (not inside))
           (side_decides Is g.C.Class.test g.met.C.Class.decides (not inside)) c.args.part.start
           (text_of c.args.part.view) c.in_ok-found.found.start c.in_ok-found.found.end
@@ -54,26 +50,7 @@ returns-clause-item g c =
     )
 
 pub returns-clause-marks : goal.returns-clause-marks
-returns-clause-marks g c = (
-  rw c.from-2.ensures.text c.in_ok-found.ensures.marks,
-  rw c.from-2.ensures.text c.last_marks_from-back.ensures,
-)
+returns-clause-marks g c = grind arith
 
 pub returns-clause-left : goal.returns-clause-left
-returns-clause-left g c =
-    let text = text_of c.args.part.view in
-    let found = c.in_ok-found.found in
-    let run = c.in_ok-found.ensures.run in
-    let low = run.low in
-    let high = run.high in
-    after_place 0 (part_in c.args.part) _ (part_in c.from-2.result) found.end
-    high c.from-2.ensures.start c.from-2.ensures.text
-    (omega (
-      arith,
-      ap part_end c.piece.ensures.piece,
-      c.from.ensures.start,
-      c.to.ensures.start,
-      low,
-      ap length c.from.ensures.text ∙ length-drop found.start (text_of c.to.result.view),
-      ap length c.to.ensures.text ∙ length-take-le found.end text high,
-    ))
+returns-clause-left g c = grind (arith, after_place, length-drop, length-take-le)

@@ -1,7 +1,6 @@
-use Rattle.std.proofs.Common.{ap, subst, sym, ◌∙◌, drop, eqb, not, arith, take}
+use Rattle.std.proofs.Common.{ap, subst, ◌∙◌, eqb, not, arith}
 use Rattle.ascii_base.specs.Bytes.{IsOnSide}
 use Rattle.ascii.specs.ByClass.{side_test}
-use Rattle.ascii_search.specs.Marked.{AreLastMarks, AreMarks}
 use Rattle.ascii.specs.Words.{IsWord}
 use Rattle.ascii.specs.View.{text_of}
 use Rattle.ascii.proofs.ByClassLemmas.{last_is_word, last_word_by, no_word}
@@ -43,8 +42,7 @@ returns-clause-item g c =
     let Is = g.C.Class.is in
     let inside = not (eqb g.row.INSIDE 0) in
     let run = c.in_ok-found.ensures in (
-      subst (IsWord (IsOnSide Is (not inside))) (sym (ap (λ span. span.item) c.piece.ensures.piece
-          ∙ (c.from.ensures.text ∙ ap (drop c.in_ok-found.found.start) c.to-rest.ensures.text)))
+      subst (IsWord (IsOnSide Is (not inside))) (grind arith)
           (last_is_word (IsOnSide Is (not inside)) (side_test g.C.Class.test (not inside))
           (side_decides Is g.C.Class.test g.met.C.Class.decides (not inside)) c.args.part.start
           (text_of c.args.part.view) c.in_ok-found.found.end c.in_ok-found.found.start
@@ -55,18 +53,7 @@ returns-clause-item g c =
     )
 
 pub returns-clause-marks : goal.returns-clause-marks
-returns-clause-marks g c =
-    let high = c.in_ok-found.ensures.run.high in
-    let inside = not (eqb g.row.INSIDE 0) in
-    let same = sym (take-take c.in_ok-found.found.start c.in_ok-found.found.end
-    (text_of c.args.part.view) (omega (arith, high))) in (
-      rw (c.to.ensures.text, c.to-rest.ensures.text)
-          (subst (λ t. AreMarks g.C.Class.is inside c.marks_to-front.result t) same
-          c.marks_to-front.ensures),
-      rw (c.to.ensures.text, c.to-rest.ensures.text)
-          (subst (λ t. AreLastMarks g.C.Class.is inside c.in_ok-found.found.marks t) same
-          c.in_ok-found.ensures.marks),
-    )
+returns-clause-marks g c = grind (arith, not, eqb, take-take)
 
 pub returns-clause-left : goal.returns-clause-left
 returns-clause-left g c =
@@ -77,6 +64,5 @@ returns-clause-left g c =
     let some = c.in_ok-found.ensures.some in
     before_place 0 (part_in c.args.part) _ (part_in c.to.result) found.start
     (omega (arith, gap, high, some)) (c.to.ensures.start ∙ c.to-rest.ensures.start)
-    (c.to.ensures.text ∙ (ap (take found.start) c.to-rest.ensures.text
-    ∙ take-take found.start found.end text (omega (arith, high))))
+    (grind (arith, take-take))
     (omega (arith, ap (λ one. one.start) c.piece.ensures.piece, c.from.ensures.start, c.to-rest.ensures.start))

@@ -1,25 +1,16 @@
-use Rattle.std.proofs.Common.{ap, subst, sym, ◌∙◌}
+use Rattle.std.proofs.Common.{ap, subst, sym, ◌∙◌, arith, length-take-le}
 use Rattle.std.proofs.lemmas.Bool.{false≢true}
 use Rattle.ascii.specs.ByText.{IsFreeOf}
 use Rattle.ascii.specs.View.{text_of}
-use Rattle.ascii.proofs.ByTextLemmas.{free_before, free_nowhere, piece_spans_at_first, piece_spans_at_none}
+use Rattle.ascii.proofs.ByTextLemmas.{free_before, free_nowhere, piece_spans_at_first}
+use Rattle.ascii.proofs.ByTextLemmas.{piece_spans_at_none}
 use Rattle.ascii.proofs.LeftLemmas.{after_place}
 use Rattle.ascii.specs.Parts.{part_end}
 use Rattle.ascii.specs.Found.{part_in}
-use Rattle.std.proofs.Common.{arith, length, length-take-le}
 use Rattle.ascii.proofs.iter.by_text.AtTextCut.first.Goals as goal
 
 pub returns-in-Some-clause-first : goal.returns-in-Some-clause-first
-returns-in-Some-clause-first c = rw (
-  c.piece-in-Some.ensures.piece,
-  c.to.ensures.start,
-  c.to.ensures.text,
-  c.from.ensures.start,
-  c.from.ensures.text,
-  c.len.ensures,
-)
-    (piece_spans_at_first c.args.part.start (text_of c.args.part.view) (text_of c.args.self.needle)
-    c.in-Some.at (λ none. false≢true (c.if-is_empty.ensures.1 none)) c.in-Some.ensures)
+returns-in-Some-clause-first c = grind (arith, piece_spans_at_first, false≢true)
 
 pub returns-in-Some-clause-item : goal.returns-in-Some-clause-item
 returns-in-Some-clause-item c = (
@@ -31,9 +22,7 @@ returns-in-Some-clause-item c = (
 )
 
 pub returns-in-None-clause-first : goal.returns-in-None-clause-first
-returns-in-None-clause-first c = rw c.piece-in-None.ensures.piece
-    (piece_spans_at_none c.args.part.start (text_of c.args.part.view)
-    (text_of c.args.self.needle) c.in-None.ensures)
+returns-in-None-clause-first c = grind (arith, piece_spans_at_none)
 
 pub returns-in-None-clause-item : goal.returns-in-None-clause-item
 returns-in-None-clause-item c = (
@@ -51,13 +40,7 @@ returns-in-Some-clause-left c =
     let fits = c.in-Some.ensures.1.fits in
     after_place _ (part_in c.args.part) _ (part_in c.from.result) _
     (omega (arith, fits, c.len.ensures)) c.from.ensures.start c.from.ensures.text
-    (omega (
-      arith,
-      c.len.ensures,
-      ap part_end c.piece-in-Some.ensures.piece,
-      c.to.ensures.start,
-      ap length c.to.ensures.text ∙ length-take-le at text (omega (arith, fits)),
-    ))
+    (grind (arith, length-take-le))
 
 pub returns-in-None-clause-left : goal.returns-in-None-clause-left
 returns-in-None-clause-left c = ap part_end c.piece-in-None.ensures.piece

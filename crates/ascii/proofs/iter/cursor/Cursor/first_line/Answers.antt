@@ -1,4 +1,4 @@
-use Rattle.std.proofs.Common.{◌≡◌, [], rules}
+use Rattle.std.proofs.Common.{◌≡◌, [], rules, arith}
 use Rattle.std.proofs.Math.Seq.{drop-length}
 use Rattle.ascii.specs.Found.{part_in}
 use Rattle.ascii.specs.View.{text_of}
@@ -12,7 +12,6 @@ returns-in-Some-clause-lines c =
 
 pub returns-in-None-clause-lines : goal.returns-in-None-clause-lines
 returns-in-None-clause-lines c =
-    let none : text_of c.from.result.view ≡ [] =
-    rw (c.from.ensures.text, c.len.ensures, drop-length) in
+    let none : text_of c.from.result.view ≡ [] = grind (arith, drop-length) in
     line_spans_open (part_in c.args.self) c.from.result _ c.in-None.ensures (search rules) none
     c.unterminated_line.ensures.line

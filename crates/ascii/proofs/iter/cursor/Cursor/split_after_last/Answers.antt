@@ -1,4 +1,4 @@
-use Rattle.std.proofs.Common.{◌+◌, inl, length, arith, ap}
+use Rattle.std.proofs.Common.{arith}
 use Rattle.std.proofs.lemmas.List.{take-append-drop, length-take}
 use Rattle.ascii.specs.View.{text_of}
 use Rattle.ascii.proofs.SearchLemmas.{cut_at_last, free_of_last, ended_at}
@@ -12,21 +12,10 @@ returns-in-Some c =
     record {
       text = rw (c.to.ensures.text, c.from.ensures.text, take-append-drop);
       before = c.to.ensures.start;
-      behind = omega (
-        arith,
-        found.0.high,
-        ap length c.to.ensures.text,
-        length-take (place + 1) text,
-      );
+      behind = grind (arith, length-take);
       whole = rw c.to.ensures.text (ended_at c.args.on text place found.0.high found.1);
       free = rw c.from.ensures.text (cut_at_last c.args.on text place found).1;
     }
 
 pub returns-in-None : goal.returns-in-None
-returns-in-None c = record {
-  text = rw c.to-in-None.ensures.text;
-  before = c.to-in-None.ensures.start;
-  behind = omega (arith, ap length c.to-in-None.ensures.text);
-  whole = inl c.to-in-None.ensures.text;
-  free = free_of_last c.args.on (text_of c.args.self.view) c.in-None.ensures;
-}
+returns-in-None c = grind (arith, free_of_last)

@@ -1,4 +1,4 @@
-use Rattle.std.proofs.Common.{◌∙◌, ◌+◌, ◌++◌, ◌∷◌, [], ap, refl, sym, subst, take}
+use Rattle.std.proofs.Common.{◌∙◌, ◌+◌, ◌++◌, ◌∷◌, [], ap, refl, subst, take, arith}
 use Rattle.std.proofs.lemmas.Bool.{false≢true}
 use Rattle.ascii_base.specs.Code.{code_of}
 use Rattle.ascii.specs.Ended.{EndsAtMost}
@@ -14,20 +14,13 @@ returns-in-Some-clause-first c =
     let on = code_of c.args.self.on in
     let through = through_first on _ (part_in c.args.part) _ c.as_byte.ensures.code c.in-Some.ensures in
     ended_first (λ piece. piece ++ on ∷ []) on (part_in c.args.part) _ _ _ c.as_byte.ensures.code
-    c.in-Some.ensures (rw (
-      c.piece.ensures.piece,
-      c.to.ensures.start,
-      c.to.ensures.text,
-      c.len.ensures,
-      through,
-    ))
+    c.in-Some.ensures (grind arith)
 
 pub returns-in-Some-clause-item : goal.returns-in-Some-clause-item
 returns-in-Some-clause-item c =
     let on = code_of c.args.self.on in
     let through = through_first on _ (part_in c.args.part) _ c.as_byte.ensures.code c.in-Some.ensures in (
-      subst (EndsAtMost on) (sym (ap (λ span. span.item) c.piece.ensures.piece
-          ∙ rw (c.to.ensures.text, c.len.ensures) through))
+      subst (EndsAtMost on) (grind arith)
           (ends_at_most on on _ (rw c.as_byte.ensures.code at c.in-Some.ensures.1)),
       c.piece.ensures.fits,
     )

@@ -1,12 +1,11 @@
-use Rattle.std.proofs.Common.{◌≡◌, ap, sym, subst, ◌∙◌}
+use Rattle.std.proofs.Common.{◌≡◌, ap, sym, subst, ◌∙◌, append_assoc, arith, ◌++◌, ◌∷◌, []}
 use Rattle.std.proofs.Math.Seq.{take-append_seam}
 use Rattle.ascii_base.specs.Code.{code_of}
 use Rattle.ascii.specs.Ended.{EndsAtMost}
-use Rattle.ascii.specs.Found.{HasNo, part_in}
+use Rattle.ascii.specs.Found.{part_in}
 use Rattle.ascii.specs.View.{text_of}
 use Rattle.ascii.proofs.EndedLemmas.{ends_at_most, from_last, inclusive_last}
 use Rattle.ascii.proofs.LeftLemmas.{before_text}
-use Rattle.std.proofs.Common.{append_assoc, arith, ◌++◌, ◌∷◌, []}
 use Rattle.ascii.proofs.iter.ended.AtEndCutBack.last.Goals as goal
 
 pub returns-clause-last : goal.returns-clause-last
@@ -30,12 +29,9 @@ returns-clause-item c =
     let ends = rw (sym cut) at whole in
     let after = from_last (code_of c.args.self.on) (part_in c.args.part) _ _ c.to.result _ ends
     c.split_after_last.ensures in (
-      subst (EndsAtMost (code_of c.args.self.on)) (sym (ap (λ span. span.item) c.piece.ensures.piece
-          ∙ rw (c.from.ensures.text, c.len.ensures) after))
+      subst (EndsAtMost (code_of c.args.self.on)) (grind arith)
           (ends_at_most (code_of c.args.self.on) c.in_ok-_last._last.now
-          (text_of c.split_after_last.result.1.view) (subst (λ on. HasNo on
-          (text_of c.split_after_last.result.1.view)) c.as_byte.ensures.code
-          c.split_after_last.ensures.free)),
+          (text_of c.split_after_last.result.1.view) (grind arith)),
       c.piece.ensures.fits,
     )
 
@@ -50,12 +46,4 @@ returns-clause-left c =
     let piece = text_of c.split_after_last.result.1.view in
     before_text 0 (part_in c.args.part) _ (part_in c.split_after_last.result.0) (piece ++ last ∷ [])
     (whole ∙ (ap (λ t. t ++ last ∷ []) (sym cut ∙ is.text) ∙ append_assoc others piece (last ∷ [])))
-    (is.before ∙ c.to.ensures.start)
-    (omega (
-      arith,
-      ap (λ one. one.start) c.piece.ensures.piece,
-      c.from.ensures.start,
-      c.len.ensures,
-      is.before,
-      c.to.ensures.start,
-    ))
+    (is.before ∙ c.to.ensures.start) (grind arith)

@@ -1,11 +1,10 @@
-use Rattle.std.proofs.Common.{refl, ◌∙◌}
+use Rattle.std.proofs.Common.{refl, ◌∙◌, ap}
 use Rattle.std.proofs.lemmas.Bool.{false≢true}
 use Rattle.ascii_base.specs.Code.{code_of}
 use Rattle.ascii.specs.Found.{part_in}
 use Rattle.ascii.proofs.EndedLemmas.{ended_first, ended_open}
 use Rattle.ascii.proofs.LeftLemmas.{after_split}
 use Rattle.ascii.specs.Parts.{part_end}
-use Rattle.std.proofs.Common.{ap}
 use Rattle.ascii.proofs.iter.ended.AtTerminatorCut.first.Goals as goal
 
 pub returns-in-Some-clause-first : goal.returns-in-Some-clause-first

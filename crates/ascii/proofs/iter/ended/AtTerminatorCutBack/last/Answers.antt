@@ -1,19 +1,17 @@
-use Rattle.std.proofs.Common.{◌≡◌, ◌++◌, ◌∷◌, [], sym}
+use Rattle.std.proofs.Common.{◌≡◌, ◌++◌, ◌∷◌, [], sym, ap, append_assoc, arith, ◌∙◌}
 use Rattle.std.proofs.Math.Seq.{take-append_seam}
 use Rattle.ascii_base.specs.Code.{code_of}
 use Rattle.ascii.specs.Found.{part_in}
 use Rattle.ascii.specs.View.{text_of}
 use Rattle.ascii.proofs.EndedLemmas.{ended_last, last_some, open_last}
 use Rattle.ascii.proofs.LeftLemmas.{before_text}
-use Rattle.std.proofs.Common.{ap, append_assoc, arith, ◌∙◌}
 use Rattle.ascii.proofs.iter.ended.AtTerminatorCutBack.last.Goals as goal
 
 pub returns-then-last-on-clause-last : goal.returns-then-last-on-clause-last
 returns-then-last-on-clause-last c =
     let text = text_of c.args.part.view in
     let front = c.in_ok-last.front.now in
-    let whole : text ≡ front ++ c.as_byte-on.result ∷ [] =
-    rw c.if-last-on.true at c.in_ok-last.ensures.cases.0 in
+    let whole : text ≡ front ++ c.as_byte-on.result ∷ [] = grind arith in
     let cut : text_of c.to.result.view ≡ front = rw (c.to.ensures.text, whole, take-append_seam) in
     ended_last (λ piece. piece) (code_of c.args.self.on) (part_in c.args.part) _ c.to.result _ _
     c.as_byte-on.ensures.code (rw cut whole) c.to.ensures.start c.split_after_last.ensures
@@ -31,8 +29,7 @@ pub returns-then-last-on-clause-left : goal.returns-then-last-on-clause-left
 returns-then-last-on-clause-left c =
     let on = c.as_byte-on.result in
     let front = c.in_ok-last.front.now in
-    let whole : text_of c.args.part.view ≡ front ++ on ∷ [] =
-    rw c.if-last-on.true at c.in_ok-last.ensures.cases.0 in
+    let whole : text_of c.args.part.view ≡ front ++ on ∷ [] = grind arith in
     let cut : text_of c.to.result.view ≡ front = rw (c.to.ensures.text, whole, take-append_seam) in
     let is = c.split_after_last.ensures in
     let others = text_of c.split_after_last.result.0.view in

@@ -1,4 +1,4 @@
-use Rattle.std.proofs.Common.{refl, subst, sym}
+use Rattle.std.proofs.Common.{refl, subst, sym, arith}
 use Rattle.std.proofs.lemmas.List.{length-map}
 use Rattle.ascii.specs.Cuts.{IsSpansOf}
 use Rattle.ascii.proofs.LeftLemmas.{placed_left}
@@ -15,8 +15,7 @@ returns g c =
       are = c.tell_items.ensures.items;
       same = refl;
       long = sym (length-map spans.items (λ span. span.item));
-      placed = placed_left (cut spans.on) c.tell_items.ensures.laws spans.rest spans.items
-          c.tell_items.ensures.items;
+      placed = grind (arith, placed_left);
       loops = runs_in_order _ _ _;
       loops_back = runs_in_reverse _ _ _;
     })
