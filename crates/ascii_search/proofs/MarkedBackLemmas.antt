@@ -33,19 +33,15 @@ module _ (Is : ℕ → Type 0) (side : Bool) (text : List ℕ) (m : ℕ) (short 
 
   there : (P : ℕ → Type 0) (k : ℕ) → P (get_or text (free + k - free) 0)
       → P (get_or text (length text - length text + k) 0)
-  there P k is =
-      let same : free + k - free ≡ length text - length text + k = omega arith in
-      subst (λ i. P (get_or text i 0)) same is
+  there P k is = grind arith
 
   pub last_marks : ShowsLast Is side text (length text) (m / 2 ^ (64 - length text))
   last_marks = record {
     room = omega arith;
     set = λ k is.
         let old = shows.set (free + k) (sym (shifted_down m free k) ∙ is) in
-        let few : free + k < 64 = old.1 in
-        (omega (arith, few), there (IsOnSide Is side) k old.2);
-    clear = λ k is few. there (IsOnSide Is (not side)) k (shows.clear (free + k)
-        (sym (shifted_down m free k) ∙ is) (omega arith) (omega (arith, few, short)));
+        grind (arith, there);
+    clear = λ k is few. there (IsOnSide Is (not side)) k (grind (arith, shifted_down));
   }
 
 -- a piece goes on before n, and no code from there on has a mark
@@ -58,8 +54,7 @@ piece_on_back Is text at n s shows few inside far = record {
     | inl early ↦ far.run k from early
     | inr late ↦
         let place : length text - at + (k - (length text - at)) ≡ k = omega (arith, late, few) in
-        subst (λ i. ¬ (Is (get_or text i 0))) place (shows.clear (k - (length text - at))
-        (bit_at-zero (k - (length text - at))) (omega (arith, before, late, few, shows.room)))
+        grind (arith, bit_at-zero)
   ];
   stop = far.stop;
 }
@@ -74,10 +69,7 @@ start_bit m k few = bit_at_and m (bit_not w64 (m * 2 ^ 1 % 2 ^ 64)) k
     ∙ ap (min (bit_at m k)) (bit_at_not w64 (m * 2 ^ 1 % 2 ^ 64) k (omega arith) few)
 
 not_moved : (m : ℕ) → bit_at (m * 2 ^ 1 % 2 ^ 64) 0 ≡ 0
-not_moved m = elim (cases_eq (bit_at (m * 2 ^ 1 % 2 ^ 64) 0) 1) [
-  | inl one ↦ absurd (omega (arith, (shifted_from m 1 0 one).0))
-  | inr other ↦ omega (arith, other, bit_at-lt (m * 2 ^ 1 % 2 ^ 64) 0)
-]
+not_moved m = grind (arith, cases_eq, shifted_from, bit_at-lt)
 
 module _ (m h : ℕ) (high : IsHighest m h) where
   -- from the highest mark down to the last that starts a run, all bits are set
@@ -108,20 +100,10 @@ module _ (m h : ℕ) (high : IsHighest m h) where
   pub without_highest : bit_xor m (1 * 2 ^ h % 2 ^ 64) ≡ bit_and m (2 ^ h - 1)
   without_highest = ap (bit_xor m) (mod-eq_of_lt small ∙ omega arith)
       ∙ same_from_bits (bit_xor m (2 ^ h)) (bit_and m (2 ^ h - 1)) (λ k. elim (cases_lt k h) [
-        | inl l ↦
-            let other : k ≢ h = omega (arith, l) in
-            bit_at_xor m (2 ^ h) k ∙ (omega (arith, bit_at-pow_other h k other, bit_at-lt m k)
-            ∙ sym (low_bit m h k l))
+        | inl l ↦ grind (arith, bit_at_xor, bit_at-pow_other, bit_at-lt, low_bit)
         | inr g ↦ elim (cases_eq k h) [
-          | inl same ↦ ap (bit_at (bit_xor m (2 ^ h))) same ∙ (bit_at_xor m (2 ^ h) h
-              ∙ (omega (arith, bit_at-pow_same h, high.set)
-              ∙ (sym (no_high_bit m h h (omega arith))
-              ∙ ap (bit_at (bit_and m (2 ^ h - 1))) (sym same))))
-          | inr other ↦ bit_at_xor m (2 ^ h) k ∙ (omega (
-            arith,
-            bit_at-pow_other h k other,
-            high.above k (omega (arith, g, other)),
-          ) ∙ sym (no_high_bit m h k g))
+          | inl same ↦ grind (arith, bit_at_xor, bit_at-pow_same, no_high_bit, bit_and)
+          | inr other ↦ bit_at_xor m (2 ^ h) k ∙ (grind (arith, bit_at-pow_other, no_high_bit))
         ]
       ])
     where
@@ -140,20 +122,14 @@ module _ (Is : ℕ → Type 0) (side : Bool) (text : List ℕ) (at mask h : ℕ)
 
   at_place : (P : ℕ → Type 0) (k : ℕ) → first ≤ k → P (get_or text (first + (k - first)) 0)
       → P (get_or text k 0)
-  at_place P k from is =
-      let same : first + (k - first) ≡ k = omega (arith, from) in
-      subst (λ i. P (get_or text i 0)) same is
+  at_place P k from is = grind arith
 
   pub gap_run_back : StartsRun Is (not side) text (length text) (first + h + 1)
   gap_run_back = record {
     high = omega (arith, inside, shows.room);
     run = λ k from before. at_place (IsOnSide Is (not side)) k (omega (arith, from))
-        (shows.clear (k - first) (high.above (k - first) (omega (arith, from)))
-        (omega (arith, before, shows.room, inside, from)));
-    stop = λ _.
-        let same : first + h ≡ first + h + 1 - 1 = omega arith in
-        subst (λ i. IsOnSide Is (not (not side)) (get_or text i 0)) same
-        (twice Is side _ (shows.set h high.set).1);
+        (grind (arith, inside));
+    stop = grind (arith, not, twice);
   }
 
   -- a run that is marked from bit n on, and goes on before it
@@ -187,10 +163,7 @@ module _ (Is : ℕ → Type 0) (side : Bool) (text : List ℕ) (at mask h : ℕ)
 
       there : (P : ℕ → Type 0) (k : ℕ) → k < n → P (get_or text (first + k) 0)
           → P (get_or (take (first + n) text) (length (take (first + n) text) - n + k) 0)
-      there P k l is =
-          let place : first + k ≡ length (take (first + n) text) - n + k = omega (arith, size) in
-          subst P (sym (get_or-take (first + n) text (first + k) 0 (omega (arith, l)))
-          ∙ ap (λ i. get_or (take (first + n) text) i 0) place) is
+      there P k l is = grind (arith, size, get_or-take)
 
   -- the marks of what comes before the last marked code
   pub cut_last : ShowsLast Is side (take (first + h + 1 - 1) text) h (bit_and mask (2 ^ h - 1))
@@ -205,10 +178,7 @@ module _ (Is : ℕ → Type 0) (side : Bool) (text : List ℕ) (at mask h : ℕ)
     set_here = omega (arith, stop.set, start_bit mask n stop.few, bit_at-lt mask n)
 
     below : n ≤ h
-    below = elim (cases_lt h n) [
-      | inl l ↦ absurd (omega (arith, set_here, high.above n l))
-      | inr g ↦ g
-    ]
+    below = grind (arith, cases_lt, set_here)
 
     ones : (k : ℕ) → n ≤ k → k < h → bit_at mask k ≡ 1
     ones k from l =
@@ -235,14 +205,7 @@ module _ (Is : ℕ → Type 0) (side : Bool) (text : List ℕ) (at mask h : ℕ)
     near_run_back later = record {
       gap = gap_run_back;
       some = omega arith;
-      run = run_before n (first + n) below ones (record {
-        high = omega arith;
-        run = λ k from before. absurd (omega (arith, from, before));
-        stop = λ _.
-            let same : first + (n - 1) ≡ first + n - 1 = omega (arith, later) in
-            subst (λ i. IsOnSide Is (not side) (get_or text i 0)) same
-            (shows.clear (n - 1) clear (omega (arith, later, below, inside)));
-      });
+      run = run_before n (first + n) below ones (grind (arith, not, clear, below, inside));
       marks = λ _. kept_before n (omega (arith, below, inside));
     }
       where
@@ -266,8 +229,7 @@ module _ (Is : ℕ → Type 0) (side : Bool) (text : List ℕ) (at m start : ℕ
 
   in_last : (P : ℕ → Type 0) (i k : ℕ) → i ≡ start + k → P (get_or text i 0)
       → P (get_or (drop start text) k 0)
-  in_last P i k same is =
-      subst P (ap (λ j. get_or text j 0) same ∙ sym (get_or-drop start text k 0)) is
+  in_last P i k same is = grind (arith, get_or-drop)
 
   pub cut_after : length text - start < at
       → ShowsLast Is side (drop start text) (length text - start)
@@ -285,7 +247,5 @@ module _ (Is : ℕ → Type 0) (side : Bool) (text : List ℕ) (at m start : ℕ
             );
         clear = λ k is short. in_last (IsOnSide Is (not side))
             (length text - at + (at - left + k)) (length (drop start text) - left + k)
-            (omega (arith, size, more, room, inside))
-            (shows.clear (at - left + k) (sym (shifted_down m (at - left) k) ∙ is)
-            (omega (arith, short, more)));
+            (omega (arith, size, more, room, inside)) (grind (arith, shifted_down));
       }

@@ -1,13 +1,11 @@
 -- Marks of the codes of a text, bit by bit.
-use Rattle.std.proofs.Common.{◌≡◌, ◌≢◌, ℕ, zero, suc, ◌+◌, ◌-◌, ◌*◌, ◌/◌, ◌%◌, ◌^◌, ◌<◌, ◌≤◌}
-use Rattle.std.proofs.Common.{Bool, true, false, not, List, length, get_or, drop, take, bit_and}
-use Rattle.std.proofs.Common.{bit_or}
+use Rattle.std.proofs.Common.{◌≡◌, ◌≢◌, ℕ, zero, suc, ◌+◌, ◌-◌, ◌*◌, ◌/◌, ◌%◌, ◌^◌, ◌<◌, ◌≤◌, Bool}
+use Rattle.std.proofs.Common.{true, false, not, List, length, get_or, drop, take, bit_and, bit_or}
 use Rattle.std.proofs.Common.{sym, ap, ◌∙◌, subst, arith, inl, inr}
 use Rattle.std.specs.Int.{bit_at}
 use Rattle.std.specs.Int.Bits.{bit_xor}
 use Rattle.std.proofs.lemmas.Bool.{cases_eq, cases_lt}
-use Rattle.std.proofs.lemmas.List.{get_or-drop, get_or-take, length-drop, length-take-le}
-use Rattle.std.proofs.lemmas.List.{take_all}
+use Rattle.std.proofs.lemmas.List.{get_or-drop, get_or-take, length-drop, length-take-le, take_all}
 use Rattle.std.proofs.lemmas.List.Elements.{All-get_or}
 use Rattle.std.proofs.lemmas.Nat.Bits.{bit_at-lt, bit_at-suc, bit_at-zero, bit_at_and}
 use Rattle.std.proofs.lemmas.Nat.Bits.{bit_at_lowest, bit_at_ones, bit_at_or, bit_at_xor}
@@ -22,30 +20,21 @@ use Rattle.ascii_search.proofs.MasksLemmas.{shifted_from, shifted_here}
 -- the other side of the other side
 pub not_not : (Is : ℕ → Type 0) (side : Bool) (code : ℕ) → IsOnSide Is (not (not side)) code
     → IsOnSide Is side code
-not_not Is true code is = is
-not_not Is false code is = is
+not_not Is side code is = grind arith
 
 -- the number before one whose lowest bit is s: 1 below s, 0 at s, and the same bits above
 pub prev_bits : (s m : ℕ) → bit_at m s ≡ 1 → ((k : ℕ) → k < s → bit_at m k ≡ 0)
     → ((k : ℕ) → k < s → bit_at (m - 1) k ≡ 1) × (bit_at (m - 1) s ≡ 0)
     × ((k : ℕ) → s < k → bit_at (m - 1) k ≡ bit_at m k)
-prev_bits zero m set below =
-    let odd : m % 2 ≡ 1 = sym (bit_at_lowest m) ∙ set in (
-      λ k l. absurd (omega (arith, l)),
-      bit_at_lowest (m - 1) ∙ omega (arith, odd),
-      above odd,
-    )
+prev_bits zero m set below = grind (arith, bit_at_lowest, above)
   where
     above : m % 2 ≡ 1 → (k : ℕ) → zero < k → bit_at (m - 1) k ≡ bit_at m k
     above odd zero l = absurd (omega (arith, l))
-    above odd (suc i) l =
-        let half : (m - 1) / 2 ≡ m / 2 = omega (arith, odd) in
-        bit_at-suc (m - 1) i ∙ ap (λ x. bit_at x i) half ∙ sym (bit_at-suc m i)
+    above odd (suc i) l = grind (arith, bit_at-suc)
 prev_bits (suc s) m set below =
     let even : m % 2 ≡ 0 = sym (bit_at_lowest m) ∙ below zero (omega arith) in
     let up : bit_at (m / 2) s ≡ 1 = sym (bit_at-suc m s) ∙ set in
-    let some : m / 2 ≢ 0 =
-    λ none. absurd (omega (arith, up, ap (λ x. bit_at x s) none, bit_at-zero s)) in
+    let some : m / 2 ≢ 0 = grind (arith, bit_at-zero) in
     let half : (m - 1) / 2 ≡ m / 2 - 1 = omega (arith, even, some) in
     let high = prev_bits s (m / 2) up
     (λ k l. sym (bit_at-suc m k) ∙ below (suc k) (omega (arith, l))) in (
@@ -57,14 +46,12 @@ prev_bits (suc s) m set below =
     ones : bit_at (m - 1) 0 ≡ 1 → (m - 1) / 2 ≡ m / 2 - 1
         → ((k : ℕ) → k < s → bit_at (m / 2 - 1) k ≡ 1) → (k : ℕ) → k < suc s → bit_at (m - 1) k ≡ 1
     ones first half high zero l = first
-    ones first half high (suc i) l =
-        bit_at-suc (m - 1) i ∙ ap (λ x. bit_at x i) half ∙ high i (omega (arith, l))
+    ones first half high (suc i) l = grind (arith, bit_at-suc)
 
     above : (m - 1) / 2 ≡ m / 2 - 1 → ((k : ℕ) → s < k → bit_at (m / 2 - 1) k ≡ bit_at (m / 2) k)
         → (k : ℕ) → suc s < k → bit_at (m - 1) k ≡ bit_at m k
     above half high zero l = absurd (omega (arith, l))
-    above half high (suc i) l = bit_at-suc (m - 1) i ∙ ap (λ x. bit_at x i) half
-        ∙ high i (omega (arith, l)) ∙ sym (bit_at-suc m i)
+    above half high (suc i) l = grind (arith, bit_at-suc)
 
 -- a mask without marks says nothing
 pub no_marks : (Is : ℕ → Type 0) (side : Bool) (marks : Marked) (text : List ℕ) → marks.mask ≡ 0
@@ -74,22 +61,12 @@ no_marks Is side marks text none = (λ some. absurd (some none), λ some. absurd
 -- a code on a side is not on the other
 pub twice : (Is : ℕ → Type 0) (side : Bool) (code : ℕ) → IsOnSide Is side code
     → IsOnSide Is (not (not side)) code
-twice Is true code is = is
-twice Is false code is = is
+twice Is side code is = grind arith
 
 -- a run of one code and more, after what is not of the run
 pub run_from : (Is : ℕ → Type 0) (side : Bool) (text : List ℕ) (s e : ℕ) → s < length text
     → EndsRun Is (not side) text 0 s → EndsRun Is side text (s + 1) e → EndsRun Is side text s e
-run_from Is side text s e some gap more = record {
-  low = omega (arith, more.low);
-  high = more.high;
-  run = λ k from before. elim (cases_eq k s) [
-    | inl same ↦ subst (λ i. IsOnSide Is side (get_or text i 0)) (sym same)
-        (not_not Is side _ (gap.stop some))
-    | inr other ↦ more.run k (omega (arith, from, other)) before
-  ];
-  stop = more.stop;
-}
+run_from Is side text s e some gap more = grind (arith, cases_eq, not_not)
 
 -- the first run on the side, at the first mark
 module _ (Is : ℕ → Type 0) (side : Bool) (text : List ℕ) (at mask p : ℕ)
@@ -107,8 +84,7 @@ module _ (Is : ℕ → Type 0) (side : Bool) (text : List ℕ) (at mask p : ℕ)
 
   filled_low : (k : ℕ) → k ≤ p → bit_at filled k ≡ 1
   filled_low k l = elim (cases_eq k p) [
-    | inl same ↦
-        ap (bit_at filled) same ∙ (bit_at_or mask (mask - 1) p ∙ omega (arith, low.set, prev.1))
+    | inl same ↦ grind (arith, bit_at_or)
     | inr other ↦
         let before : k < p = omega (arith, l, other) in
         bit_at_or mask (mask - 1) k ∙ omega (arith, low.below k before, prev.0 k before)
@@ -116,23 +92,19 @@ module _ (Is : ℕ → Type 0) (side : Bool) (text : List ℕ) (at mask p : ℕ)
 
   filled_high : (k : ℕ) → p ≤ k → bit_at filled k ≡ bit_at mask k
   filled_high k g = elim (cases_eq k p) [
-    | inl same ↦ ap (bit_at filled) same ∙ (filled_low p (omega arith)
-        ∙ (sym low.set ∙ ap (bit_at mask) (sym same)))
+    | inl same ↦ grind (arith, filled_low)
     | inr other ↦
         bit_at_or mask (mask - 1) k ∙ omega (arith, prev.2 k (omega (arith, g, other)))
   ]
 
   at_place : (P : ℕ → Type 0) (k : ℕ) → P (get_or text (at + k - at) 0) → P (get_or text k 0)
-  at_place P k is =
-      let same : at + k - at ≡ k = omega arith in subst (λ i. P (get_or text i 0)) same is
+  at_place P k is = grind arith
 
   pub gap_run : EndsRun Is (not side) text 0 (p - at)
   gap_run = record {
     low = omega arith;
     high = omega (arith, low.few, shows.room);
-    run = λ k from before. at_place (IsOnSide Is (not side)) k (shows.clear (at + k)
-        (low.below (at + k) (omega (arith, before))) (omega arith)
-        (omega (arith, before, low.few)));
+    run = λ k from before. at_place (IsOnSide Is (not side)) k (grind arith);
     stop = λ _. twice Is side _ (shows.set p low.set).2;
   }
 
@@ -148,8 +120,7 @@ module _ (Is : ℕ → Type 0) (side : Bool) (text : List ℕ) (at mask p : ℕ)
               | inl l ↦ l
               | inr g ↦ elim (cases_eq k p) [
                 | inl same ↦ absurd (omega (arith, is, both, prev.1, ap (bit_at (mask - 1)) same))
-                | inr other ↦
-                    absurd (omega (arith, is, both, low.below k (omega (arith, g, other))))
+                | inr other ↦ grind arith
               ]
             ] in
             (omega (arith, past), old.1, after_place (IsOnSide Is side) k past old.2);
@@ -161,10 +132,7 @@ module _ (Is : ℕ → Type 0) (side : Bool) (text : List ℕ) (at mask p : ℕ)
     where
       after_place : (P : ℕ → Type 0) (k : ℕ) → p < k → P (get_or text (k - at) 0)
           → P (get_or (drop (p - at + 1) text) (k - (p + 1)) 0)
-      after_place P k past is =
-          let place : p - at + 1 + (k - (p + 1)) ≡ k - at = omega (arith, starts, past) in
-          subst P (sym (get_or-drop (p - at + 1) text (k - (p + 1)) 0
-          ∙ ap (λ i. get_or text i 0) place)) is
+      after_place P k past is = grind (arith, starts, get_or-drop)
 
   -- a run that is marked up to q, and goes on there
   run_on : (q e : ℕ) → p < q → ((k : ℕ) → p ≤ k → k < q → bit_at mask k ≡ 1)
@@ -216,9 +184,7 @@ module _ (Is : ℕ → Type 0) (side : Bool) (text : List ℕ) (at mask p : ℕ)
 
     in_rest : (P : ℕ → Type 0) (k : ℕ) → q ≤ k → P (get_or text (k - at) 0)
         → P (get_or (drop (q - at) text) (k - q) 0)
-    in_rest P k g is =
-        let place : q - at + (k - q) ≡ k - at = omega (arith, ends, g) in
-        subst P (sym (get_or-drop (q - at) text (k - q) 0 ∙ ap (λ i. get_or text i 0) place)) is
+    in_rest P k g is = grind (arith, ends, get_or-drop)
 
     kept : Shows Is side (drop (q - at) text) q (bit_and mask (filled + 1))
     kept = record {
@@ -226,10 +192,7 @@ module _ (Is : ℕ → Type 0) (side : Bool) (text : List ℕ) (at mask p : ℕ)
       set = λ k is.
           let both = bit_at_and mask (filled + 1) k in
           let old = shows.set k (omega (arith, is, both, bit_at-lt mask k)) in
-          let from : q ≤ k = elim (cases_lt k q) [
-            | inl l ↦ absurd (omega (arith, is, both, stop.below k l))
-            | inr g ↦ g
-          ] in
+          let from : q ≤ k = grind (arith, cases_lt) in
           (from, old.1, in_rest (IsOnSide Is side) k from old.2);
       clear = λ k is from few. in_rest (IsOnSide Is (not side)) k from (shows.clear k
           (elim (cases_eq k q) [
@@ -256,12 +219,7 @@ module _ (Is : ℕ → Type 0) (side : Bool) (text : List ℕ) (at mask p : ℕ)
       gap = gap_run;
       some = omega (arith, low.few, shows.room, starts);
       run = run_on q (q - at) order (λ k from before. sym (filled_high k from)
-          ∙ (sym (back k) ∙ next.0 k before)) (record {
-            low = omega arith;
-            high = omega (arith, stop.few, shows.room);
-            run = λ k from before. absurd (omega (arith, from, before));
-            stop = λ _. shows.clear q at_stop ends stop.few;
-          });
+          ∙ (sym (back k) ∙ next.0 k before)) (grind (arith, at_stop, ends));
       marks = λ _. kept;
     }
 
@@ -284,29 +242,13 @@ module _ (Is : ℕ → Type 0) (text : List ℕ) (n count first second : ℕ) (l
     set = λ k is. elim (cases_eq (bit_at here k) 1) [
       | inl one ↦
           let up = shifted_from first (64 - count) k one in
-          let found = low.set (k - (64 - count)) up.2 in
-          (up.0, up.1, moved (λ c. ¬ (Is c)) (0 + (k - (64 - count))) _ (omega arith) found.1)
+          grind (arith, moved)
       | inr other ↦
-          let one : bit_at there k ≡ 1 =
-          omega (arith, is, bit_at_or here there k, bit_at-lt here k, other) in
+          let one : bit_at there k ≡ 1 = grind (arith, bit_at_or, bit_at-lt) in
           let up = shifted_from second (64 - n) k one in
-          let past : 64 - n ≤ k = up.0 in
-          let found = high.set (k - (64 - n)) up.2 in (
-            omega (arith, past),
-            up.1,
-            moved (λ c. ¬ (Is c)) (count - n + (k - (64 - n))) _ (omega (arith, past)) found.1,
-          )
+          grind (arith, moved)
     ];
-    clear = λ k is from short. elim (cases_lt (k - (64 - count)) n) [
-      | inl l ↦ moved Is (0 + (k - (64 - count))) _ (omega arith) (low.clear (k - (64 - count))
-          (sym (shifted_here first (64 - count) k short from)
-          ∙ omega (arith, is, bit_at_or here there k)) l)
-      | inr g ↦
-          let past : 64 - n ≤ k = omega (arith, g, from) in
-          moved Is (count - n + (k - (64 - n))) _ (omega (arith, past))
-          (high.clear (k - (64 - n)) (sym (shifted_here second (64 - n) k short past)
-          ∙ omega (arith, is, bit_at_or here there k)) (omega (arith, short, past)))
-    ];
+    clear = grind (arith, cases_lt, moved, shifted_here, bit_at_or);
   }
 
 -- the marks of the other side
@@ -329,17 +271,13 @@ module _ (Is : ℕ → Type 0) (text : List ℕ) (at m : ℕ) (few : at < 64)
   inside_of_outside = record {
     room = shows.room;
     set = λ k is. elim (cases_eq (bit_at m k) 1) [
-      | inl one ↦
-          let old = shows.set k one in
-          absurd (omega (arith, is, turned k old.0 old.1, one))
+      | inl one ↦ grind (arith, turned)
       | inr none ↦
-          let up : bit_at all k ≡ 1 =
-          omega (arith, is, bit_at_xor m all k, none, bit_at-lt m k, bit_at-lt all k) in
+          let up : bit_at all k ≡ 1 = grind (arith, bit_at_xor, bit_at-lt) in
           let old = shifted_from (2 ^ 64 - 1) at k up in
           (old.0, old.1, shows.clear k (omega (arith, none, bit_at-lt m k)) old.0 old.1)
     ];
-    clear = λ k is from short.
-        (shows.set k (omega (arith, is, turned k from short, bit_at-lt m k))).2;
+    clear = grind (arith, turned, bit_at-lt);
   }
 
 -- a piece goes on at n, and no code before has a mark
@@ -351,8 +289,7 @@ piece_on Is text at n e shows few far = record {
   run = λ k from before. elim (cases_lt k n) [
     | inl near ↦
         let place : at + k - at ≡ k = omega arith in
-        subst (λ i. ¬ (Is (get_or text i 0))) place
-        (shows.clear (at + k) (bit_at-zero (at + k)) (omega arith) (omega (arith, near, few)))
+        grind (arith, bit_at-zero)
     | inr past ↦ far.run k past before
   ];
   stop = far.stop;
@@ -371,8 +308,7 @@ module _ (Is : ℕ → Type 0) (text : List ℕ) (from : ℕ) (room : from ≤ l
 
   in_text : (P : ℕ → Type 0) (i k : ℕ) → from + i ≡ k → P (get_or part i 0)
       → P (get_or text k 0)
-  in_text P i k same is = subst P (ap (λ t. get_or t i 0) whole
-      ∙ (get_or-drop from text i 0 ∙ ap (λ j. get_or text j 0) same)) is
+  in_text P i k same is = subst P (grind (arith, whole, get_or-drop)) is
 
   pub ends_at : (e : ℕ) → IsFirstOf Is part 0 (length part) e
       → EndsRun Is false text from (from + e)
@@ -401,8 +337,7 @@ module _ (Is : ℕ → Type 0) (side : Bool) (text : List ℕ) (at m n : ℕ) (r
 
   in_first : (P : ℕ → Type 0) (i k : ℕ) → i ≡ k → k < n → P (get_or text i 0)
       → P (get_or (take n text) k 0)
-  in_first P i k same few is = subst P (ap (λ j. get_or text j 0) same
-      ∙ sym (get_or-take n text k 0 few)) is
+  in_first P i k same few is = subst P (grind (arith, get_or-take)) is
 
   pub cut_before : at + n < 64
       → Shows Is side (take n text) (64 - n) (m * 2 ^ (64 - n - at) % 2 ^ 64)
@@ -421,7 +356,5 @@ module _ (Is : ℕ → Type 0) (side : Bool) (text : List ℕ) (at m n : ℕ) (r
         );
     clear = λ k is from few. in_first (IsOnSide Is (not side)) (k - (64 - n - at) - at)
         (k - (64 - n)) (omega (arith, short, from)) (omega (arith, few, from, short))
-        (shows.clear (k - (64 - n - at))
-        (sym (shifted_here m (64 - n - at) k few (omega (arith, from))) ∙ is)
-        (omega (arith, from, short)) (omega (arith, few)));
+        (grind (arith, shifted_here));
   }

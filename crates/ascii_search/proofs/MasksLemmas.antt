@@ -2,30 +2,24 @@
 use Rattle.std.proofs.Common.{◌≡◌, ◌≢◌, ℕ, ◌+◌, ◌-◌, ◌*◌, ◌/◌, ◌%◌, ◌^◌, ◌<◌, ◌≤◌, Bool, false}
 use Rattle.std.proofs.Common.{cond, List, map, length, get_or, take, drop, bit_and, bit_or, sym, ap}
 use Rattle.std.proofs.Common.{◌∙◌, refl, subst, arith, inl, inr, pow_pos, shr-shr, Option, None}
-use Rattle.std.proofs.Common.{Some, true, ◌&&◌, ◌||◌, eqb}
+use Rattle.std.proofs.Common.{Some, true, ◌&&◌, ◌||◌, eqb, ◌↔◌, not, w8, w64}
 use Rattle.std.specs.Int.{bit_at}
-use Rattle.std.proofs.lemmas.Bool.{cases_lt, cases_eq, eq-eqb, eqb-true}
+use Rattle.std.proofs.lemmas.Bool.{cases_lt, cases_eq, eq-eqb, eqb-true, or_cases}
 use Rattle.std.proofs.lemmas.List.{length-map, get_or-map, get_or_past, get_or-drop, length-drop}
-use Rattle.std.proofs.lemmas.List.{take_all}
+use Rattle.std.proofs.lemmas.List.{take_all, drop-map, take-map}
 use Rattle.std.proofs.lemmas.Nat.Bits.{bit_at-zero, bit_at-lt, bit_at_or, bit_at_above}
-use Rattle.std.proofs.lemmas.Nat.Bits.{bit_at_cat_low, bit_at_cat_high}
+use Rattle.std.proofs.lemmas.Nat.Bits.{bit_at_cat_low, bit_at_cat_high, bit_at-trailing_zeros}
 use Rattle.std.proofs.lemmas.Simd.{bit_mask_l, get_or-chunk, get_or-replicate, get_or-zip2}
 use Rattle.std.proofs.lemmas.Simd.{length-chunk, length-replicate, length-zip2, mask_l-mod}
+use Rattle.std.proofs.lemmas.Simd.{tops_compared}
 use lib.Lanes.{chunk, mask_l, top, zip2}
 use lib.ListN.{replicate}
-use Rattle.std.proofs.Common.{◌↔◌, not, w8, w64}
-use Rattle.std.proofs.lemmas.Bool.{false≢true}
-use Rattle.std.proofs.lemmas.Nat.Bits.{bit_at-trailing_zeros}
-use Rattle.std.proofs.lemmas.Simd.{tops_compared}
 use Rattle.std.specs.List.{slice_range}
-use Rattle.std.proofs.lemmas.Bool as Bool
-use Rattle.std.proofs.lemmas.Bool.{or_cases}
 use Rattle.std.proofs.lemmas.Bool.Decides.{nat_tests}
-use Rattle.std.proofs.lemmas.List.{drop-map, take-map}
-use Rattle.memchr.specs.Find.{FindsNeedle, IsFirst, IsFirstByte}
-use Rattle.memchr.specs.Find.{Nowhere, OccursAt, Passes, is_byte, is_byte2}
-use Rattle.memchr.proofs.lemmas.FindLemmas.{IsFirst-agree, IsFirst-wider}
-use Rattle.memchr.proofs.lemmas.FindLemmas.{OccursAt-byte, byte-OccursAt}
+use Rattle.memchr.specs.Find.{FindsNeedle, IsFirst, IsFirstByte, Nowhere, OccursAt, is_byte}
+use Rattle.memchr.specs.Find.{is_byte2}
+use Rattle.memchr.proofs.lemmas.FindLemmas.{IsFirst-agree, IsFirst-wider, OccursAt-byte}
+use Rattle.memchr.proofs.lemmas.FindLemmas.{byte-OccursAt}
 use Rattle.memchr.proofs.lemmas.MatchLemmas.{OccursAt-from_part, OccursAt-part}
 use Rattle.ascii_base.specs.Case.{lower_image, upper_image}
 use Rattle.ascii_search.specs.Masks.{FindsBy, HasBit, HasByte, HasPart, IsCandidate}
@@ -44,10 +38,7 @@ module _ (m s k : ℕ) where
 
   pub shifted_from : HasBit (m * 2 ^ s % 2 ^ 64) k → (s ≤ k) × (k < 64) × HasBit m (k - s)
   shifted_from is = elim (cases_lt k 64) [
-    | inl few ↦ elim (cases_lt k s) [
-      | inl low ↦ absurd (omega (arith, is, in_word few, bit_at_cat_low m s 0 k low, bit_at-zero k))
-      | inr high ↦ (high, few, sym (shifted_here few high) ∙ is)
-    ]
+    | inl few ↦ grind (arith, cases_lt, in_word, bit_at_cat_low, bit_at-zero, shifted_here)
     | inr g ↦ absurd (omega (arith, is, bit_at_above (m * 2 ^ s % 2 ^ 64) 64 k (omega arith) g))
   ]
 
@@ -98,20 +89,13 @@ module _ (image : ℕ → ℕ) (hay needle : List ℕ) (n last first second : �
     joined = record {
       each = λ k l is. elim (cases_lt k n) [
         | inl short ↦ or_left first up k (low.each k short is)
-        | inr g ↦
-            let from : last ≤ k = omega arith in
-            or_right first up k (shifted_here second last k (omega arith) from
-            ∙ high.each (k - last) (omega arith)
-            (subst (OccursBy image hay needle) (sym (here k from)) is))
+        | inr g ↦ grind (arith, or_right, shifted_here, here)
       ];
       set = λ k is. elim (cases_eq (bit_at first k) 1) [
         | inl one ↦ let h = low.set k one in let short : k < n = h.0 in (omega arith, h.1)
         | inr other ↦
             let up_one = shifted_from second last k (or_one first up k is other) in
-            let h = high.set (k - last) up_one.2 in
-            let short : k - last < n = h.0 in
-            let from : last ≤ k = up_one.0 in
-            (omega arith, subst (IsCandidate image hay needle) (here k from) h.1)
+            grind (arith, here)
       ];
     }
 
@@ -121,8 +105,7 @@ pub nowhere_marked : (image : ℕ → ℕ) (hay needle : List ℕ) (start n mask
     → Nowhere (HasBit mask) i j → Nowhere (OccursBy image hay needle) (start + i) (start + j)
 nowhere_marked image hay needle start n mask i j marks inside none k from to here =
     let same : k ≡ start + (k - start) = omega arith in
-    none (k - start) (omega arith) (omega arith)
-    (marks.each (k - start) (omega arith) (subst (OccursBy image hay needle) same here))
+    grind (arith, here)
 
 -- no position of a block without a mark
 pub nowhere_in_block : (image : ℕ → ℕ) (hay needle : List ℕ) (start mask : ℕ)
@@ -134,41 +117,30 @@ nowhere_in_block image hay needle start mask marks none k from to =
 
 -- nowhere up to a position and nowhere from it on
 pub nowhere_in_both : (P : ℕ → Type 0) (i j k : ℕ) → Nowhere P i j → Nowhere P j k → Nowhere P i k
-nowhere_in_both P i j k near far at from to here =
-    elim (cases_lt at j) [ inl l ↦ near at from l here | inr g ↦ far at g to here ]
+nowhere_in_both P i j k near far at from to here = grind (arith, here, cases_lt)
 
 -- nowhere but at one position, and not there
 pub nowhere_at : (P : ℕ → Type 0) (i : ℕ) → ¬ (P i) → Nowhere P i (i + 1)
-nowhere_at P i not k from to here =
-    let same : k ≡ i = omega arith in not (subst P same here)
+nowhere_at P i not k from to here = grind (arith, not, here)
 
 -- the lanes of a comparison, and of two comparisons
 abbrev lane_of : Bool → ℕ
 lane_of b = cond b 255 0
 
 both_lanes : (a b : Bool) → bit_and (lane_of a) (lane_of b) ≡ lane_of (a && b)
-both_lanes true true = refl
-both_lanes true false = refl
-both_lanes false true = refl
-both_lanes false false = refl
+both_lanes a b = grind arith
 
 either_lane : (a b : Bool) → bit_or (lane_of a) (lane_of b) ≡ lane_of (a || b)
-either_lane true true = refl
-either_lane true false = refl
-either_lane false true = refl
-either_lane false false = refl
+either_lane a b = grind arith
 
 top_lane : (b : Bool) → top 7 (lane_of b) ≡ b
-top_lane true = refl
-top_lane false = refl
+top_lane b = grind arith
 
 set_lane : (b : Bool) → ◌≡◌ {A = ℕ} (cond b 1 0) 1 → b ≡ true
-set_lane true set = refl
-set_lane false set = absurd (omega (arith, set))
+set_lane b is = grind arith
 
 clear_lane : (b : Bool) → ◌≡◌ {A = ℕ} (cond (not b) 1 0) 0 → b ≡ true
-clear_lane true clear = refl
-clear_lane false clear = absurd (omega (arith, clear))
+clear_lane b clear = grind arith
 
 -- `lower` and `upper` are the bytes that count as byte `at` of the needle
 abbrev pub AreCases : (ℕ → ℕ) → List ℕ → ℕ → ℕ → ℕ → Type 0
@@ -181,17 +153,14 @@ pub reads_byte : (image : ℕ → ℕ) (hay needle : List ℕ) (start k at from 
     → at < length needle → from ≡ start + at
     → is_byte2 lower upper (get_or hay (from + k) 0) ≡ true
 reads_byte image hay needle start k at from lower upper cases occurs inside same =
-    let there : from + k ≡ start + k + at = omega (arith, same) in
-    (cases _).1 (ap (λ j. image (get_or hay j 0)) there ∙ occurs.reads at inside)
+    grind (arith, inside)
 
 -- a byte that passes the test is that of the needle
 pub has_byte : (image : ℕ → ℕ) (hay needle : List ℕ) (start k at from lower upper : ℕ)
     → AreCases image needle at lower upper → from ≡ start + at
     → is_byte2 lower upper (get_or hay (from + k) 0) ≡ true
     → HasByte image hay needle (start + k) at
-has_byte image hay needle start k at from lower upper cases same is =
-    let there : start + k + at ≡ from + k = omega (arith, same) in
-    ap (λ j. image (get_or hay j 0)) there ∙ (cases _).0 is
+has_byte image hay needle start k at from lower upper cases same is = grind arith
 
 -- the candidates of a needle among positions at which it fits: three of its bytes are there
 module _ (image : ℕ → ℕ) (hay needle : List ℕ) (start n : ℕ) (few : n ≤ 64)
@@ -200,9 +169,7 @@ module _ (image : ℕ → ℕ) (hay needle : List ℕ) (start n : ℕ) (few : n 
   lanes_of from on = zip2 (λ a b. cond (eqb a b) 255 0) (chunk from n hay) (replicate n on)
 
   length_of : (from on : ℕ) → from + n ≤ length hay → length (lanes_of from on) ≡ n
-  length_of from on inside =
-      let long = length-chunk from n hay inside in
-      length-zip2 _ (chunk from n hay) (replicate n on) (long ∙ sym (length-replicate n on)) ∙ long
+  length_of from on inside = grind (arith, inside, length-chunk, length-zip2, length-replicate)
 
   lane_is : (from on k : ℕ) → from + n ≤ length hay → k < n
       → get_or (lanes_of from on) k 0 ≡ lane_of (is_byte on (get_or hay (from + k) 0))
@@ -218,10 +185,7 @@ module _ (image : ℕ → ℕ) (hay needle : List ℕ) (start n : ℕ) (few : n 
 
   length_lanes : (from lower upper : ℕ) → from + n ≤ length hay
       → length (lanes from lower upper) ≡ n
-  length_lanes from lower upper inside =
-      length-zip2 bit_or (lanes_of from lower) (lanes_of from upper)
-      (length_of from lower inside ∙ sym (length_of from upper inside))
-      ∙ length_of from lower inside
+  length_lanes from lower upper inside = grind (arith, inside, length-zip2, bit_or, length_of)
 
   lane : (from lower upper k : ℕ) → from + n ≤ length hay → k < n
       → get_or (lanes from lower upper) k 0
@@ -241,13 +205,10 @@ module _ (image : ℕ → ℕ) (hay needle : List ℕ) (start n : ℕ) (few : n 
     three = zip2 bit_and two (lanes last c0 c1)
 
     length_two : length two ≡ n
-    length_two = length-zip2 bit_and (lanes first a0 a1) (lanes middle b0 b1)
-        (length_lanes first a0 a1 in_a ∙ sym (length_lanes middle b0 b1 in_b))
-        ∙ length_lanes first a0 a1 in_a
+    length_two = grind (arith, length-zip2, bit_and, length_lanes)
 
     length_three : length three ≡ n
-    length_three = length-zip2 bit_and two (lanes last c0 c1)
-        (length_two ∙ sym (length_lanes last c0 c1 in_c)) ∙ length_two
+    length_three = grind (arith, length-zip2, bit_and, length_two, length_lanes)
 
     abbrev has : ℕ → Bool
     has k = is_byte2 a0 a1 (get_or hay (first + k) 0) && is_byte2 b0 b1 (get_or hay (middle + k) 0)
@@ -276,13 +237,7 @@ module _ (image : ℕ → ℕ) (hay needle : List ℕ) (start n : ℕ) (few : n 
     pub marks_of_three : ((k : ℕ) → k < n → OccursBy image hay needle (start + k) → has k ≡ true)
         → ((k : ℕ) → k < n → has k ≡ true → IsCandidate image hay needle (start + k))
         → MarksCandidates image hay needle start n (mask_l (map (top 7) three) % 2 ^ 64)
-    marks_of_three there found = record {
-      each = λ k l occurs. bit k l ∙ ap (λ b. cond b 1 0) (there k l occurs);
-      set = λ k is. elim (cases_lt k n) [
-        | inl l ↦ (l, found k l (set_lane (has k) (sym (bit k l) ∙ is)))
-        | inr g ↦ absurd (omega (arith, is, past k g))
-      ];
-    }
+    marks_of_three there found = grind (arith, bit, cases_lt, set_lane, past)
 
 -- a part of the needle and the bytes of the text there: the mask has a bit for each one that differs
 module _ (hay needle : List ℕ) (k from n : ℕ) (few : n ≤ 64)
@@ -306,8 +261,7 @@ module _ (hay needle : List ℕ) (k from n : ℕ) (few : n ≤ 64)
   length_wanted = length-chunk from n needle room
 
   length_apart : length apart ≡ n
-  length_apart = length-zip2 differ there wanted (length_there ∙ sym length_wanted)
-      ∙ length_there
+  length_apart = grind (arith, length-zip2, length_there, length_wanted)
 
   mask : mask_l (map (top 7) (zip2 (λ a b. cond (differ a b) 255 0) there wanted)) % 2 ^ 64
       ≡ mask_l apart
@@ -316,9 +270,7 @@ module _ (hay needle : List ℕ) (k from n : ℕ) (few : n ≤ 64)
 
   byte_apart : (i : ℕ) → i < n → get_or apart i false
       ≡ differ (get_or hay (k + from + i) 0) (get_or needle (from + i) 0)
-  byte_apart i l = get_or-zip2 differ there wanted i 0 0 false (omega (arith, length_there))
-      (omega (arith, length_wanted))
-      ∙ (λ x. differ (get_or-chunk (k + from) n hay i 0 l x) (get_or-chunk from n needle i 0 l x))
+  byte_apart i l = grind (arith, get_or-zip2, length_there, length_wanted, get_or-chunk)
 
   none_apart : mask_l apart ≡ 0 → HasPart hay needle k from n
   none_apart none j low high =
@@ -328,19 +280,10 @@ module _ (hay needle : List ℕ) (k from n : ℕ) (few : n ≤ 64)
       let place : k + from + i ≡ k + j = omega arith in
       let clear = sym (ap (λ b. cond b 1 0) (byte_apart i l)) ∙ sym (bit_mask_l apart i)
       ∙ ap (λ m. bit_at m i) none ∙ bit_at-zero i in
-      ap (λ x. get_or hay x 0) (sym place) ∙ eqb-true _ _ (clear_lane _ clear)
-      ∙ ap (λ x. get_or needle x 0) here
+      grind (arith, eqb-true, clear_lane, here)
 
   part_apart : HasPart hay needle k from n → (i : ℕ) → get_or apart i false ≡ true → ⊥
-  part_apart part i is = elim (cases_lt i n) [
-    | inl l ↦
-        let place : k + (from + i) ≡ k + from + i = omega arith in
-        let same = sym (ap (λ x. get_or hay x 0) place)
-        ∙ part (from + i) (omega arith) (omega (arith, l)) in
-        false≢true (ap not (sym (eq-eqb _ _ same)) ∙ sym (byte_apart i l) ∙ is)
-    | inr past ↦ false≢true (sym (get_or_past apart i false (omega (arith, length_apart, past)))
-        ∙ is)
-  ]
+  part_apart part i is = grind (arith, not, eq-eqb, byte_apart, past, get_or_past, length_apart)
 
   all_same : HasPart hay needle k from n → mask_l apart ≡ 0
   all_same part = elim (cases_eq (mask_l apart) 0) [
@@ -354,46 +297,23 @@ module _ (hay needle : List ℕ) (k from n : ℕ) (few : n ≤ 64)
   pub part_compared :
       (eqb (mask_l (map (top 7) (zip2 (λ a b. cond (differ a b) 255 0) there wanted)) % 2 ^ 64) 0
       ≡ true) ↔ HasPart hay needle k from n
-  part_compared = (
-    λ t. none_apart (sym mask ∙ eqb-true _ _ t),
-    λ part. eq-eqb _ _ (mask ∙ all_same part),
-  )
+  part_compared = grind (arith, none_apart, mask, eqb-true, eq-eqb, all_same)
 
 module _ (image : ℕ → ℕ) (hay needle : List ℕ) where
   -- a needle is nowhere that it does not fit
   pub all_positions : (n mask : ℕ) → n ≤ 64 → length hay + 1 ≤ n + length needle
       → MarksCandidates image hay needle 0 n mask → MarksCandidates image hay needle 0 64 mask
-  all_positions n mask few most marks = record {
-    each = λ k l occurs. let fits = occurs.fits in
-        marks.each k (omega (arith, fits)) occurs;
-    set = λ k is. let h = marks.set k is in let short : k < n = h.0 in (omega arith, h.1);
-  }
+  all_positions n mask few most marks = grind (arith, mask)
 
   -- a needle of at most three bytes is at each candidate
   pub exact : (k : ℕ) → 0 < length needle → length needle ≤ 3 → IsCandidate image hay needle k
       → OccursBy image hay needle k
-  exact k some few candidate = record {
-    fits = candidate.fits;
-    reads = λ j l. elim (cases_eq j 0) [
-      | inl first ↦ subst (HasByte image hay needle k) (sym first) candidate.first
-      | inr after ↦ elim (cases_eq j (length needle - 1)) [
-        | inl last ↦ subst (HasByte image hay needle k) (sym last) candidate.last
-        | inr before ↦
-            let middle : j ≡ length needle / 2 = omega (arith, after, before) in
-            subst (HasByte image hay needle k) (sym middle) candidate.middle
-      ]
-    ];
-  }
+  exact k some few candidate = grind (arith, cases_eq)
 
   -- a needle is at a candidate only
   pub candidate_at : (k : ℕ) → 0 < length needle → OccursBy image hay needle k
       → IsCandidate image hay needle k
-  candidate_at k some occurs = record {
-    fits = occurs.fits;
-    first = occurs.reads 0 some;
-    middle = occurs.reads (length needle / 2) (omega (arith, some));
-    last = occurs.reads (length needle - 1) (omega (arith, some));
-  }
+  candidate_at k some occurs = grind arith
 
   -- the first of all positions, of which none is before `start`, and none from `end` on fits
   pub found_first : (start end : ℕ) (found : Option ℕ)
@@ -419,13 +339,7 @@ module _ (hay needle : List ℕ) where
   -- a needle of at most two parts is where both are
   pub ends_occur : (k n last : ℕ) → k + length needle ≤ length hay → last + n ≡ length needle
       → last ≤ n → HasPart hay needle k 0 n → HasPart hay needle k last n → OccursBy itself hay needle k
-  ends_occur k n last fits whole near front back = record {
-    fits = fits;
-    reads = λ j l. elim (cases_lt j n) [
-      | inl low ↦ front j (omega arith) (omega (arith, low))
-      | inr high ↦ back j (omega arith) (omega (arith, whole))
-    ];
-  }
+  ends_occur k n last fits whole near front back = grind (arith, cases_lt)
 
   pub part_of : (k from n : ℕ) → from + n ≤ length needle → OccursBy itself hay needle k
       → HasPart hay needle k from n
@@ -438,37 +352,15 @@ module _ (hay needle : List ℕ) where
   pub occurs_on : (p : ℕ) → p ≤ length hay
       → (OccursAt (take (length hay - p) (drop p hay)) needle 0 → OccursBy itself hay needle p)
       × (OccursBy itself hay needle p → OccursAt (take (length hay - p) (drop p hay)) needle 0)
-  occurs_on p inside =
-      let whole : take (length hay - p) (drop p hay) ≡ drop p hay =
-      take_all (length hay - p) (drop p hay) (omega (arith, length-drop p hay)) in (
-        λ h.
-            let fits = (subst (λ part. OccursAt part needle 0) whole h).fits in
-            let reads = (subst (λ part. OccursAt part needle 0) whole h).reads in
-            record {
-              fits = omega (arith, fits, length-drop p hay);
-              reads = λ j l. sym (get_or-drop p hay j 0)
-                  ∙ ap (λ i. get_or (drop p hay) i 0) (sym (from_start j)) ∙ reads j l;
-            },
-        λ h.
-            let fits = h.fits in
-            subst (λ part. OccursAt part needle 0) (sym whole) (record {
-              fits = omega (arith, fits, length-drop p hay);
-              reads = λ j l. ap (λ i. get_or (drop p hay) i 0) (from_start j)
-                  ∙ get_or-drop p hay j 0 ∙ h.reads j l;
-            }),
-      )
+  occurs_on p inside = grind (arith, inside, take_all, length-drop, get_or-drop, from_start)
 
   pub finds_same : (found : Option ℕ) → FindsNeedle hay needle 0 found
       → FindsBy itself hay needle found
-  finds_same = IsFirst-agree (OccursAt hay needle) (OccursBy itself hay needle) 0 (length hay + 1)
-      (λ k _ is. record { fits = is.fits; reads = is.reads })
-      (λ k _ is. record { fits = is.fits; reads = is.reads })
+  finds_same = grind (arith, IsFirst-agree)
 
   pub same_finds : (found : Option ℕ) → FindsBy itself hay needle found
       → FindsNeedle hay needle 0 found
-  same_finds = IsFirst-agree (OccursBy itself hay needle) (OccursAt hay needle) 0 (length hay + 1)
-      (λ k _ is. record { fits = is.fits; reads = is.reads })
-      (λ k _ is. record { fits = is.fits; reads = is.reads })
+  same_finds = grind (arith, IsFirst-agree)
 
 -- a search for the byte of a needle of one byte is one for the needle
 module _ (hay needle : List ℕ) (one : length needle ≡ 1) where
@@ -481,9 +373,7 @@ module _ (hay needle : List ℕ) (one : length needle ≡ 1) where
   pub finds_byte : (found : Option ℕ) → IsFirstByte on hay found
       → FindsBy itself hay needle found
   finds_byte found is = finds_same hay needle found
-      (IsFirst-wider (OccursAt hay needle) 0 (length hay) _ (omega arith) inside
-      found (IsFirst-agree (Passes on hay) (OccursAt hay needle) 0 (length hay)
-      (OccursAt-byte hay needle one) (λ k _. byte-OccursAt hay needle one k) found is))
+      (grind (arith, IsFirst-wider, inside, IsFirst-agree, OccursAt-byte, byte-OccursAt))
 
 -- ---- a needle among the images of the bytes
 
@@ -501,8 +391,7 @@ module _ (image : ℕ → ℕ) (hay needle : List ℕ) where
   images_occur : (k : ℕ) → OccursAt (map image hay) (map image needle) k
       → OccursBy image hay needle k
   images_occur k occurs = let fits = occurs.fits in
-      let room : k + length needle ≤ length hay =
-      omega (arith, fits, length-map hay image, length-map needle image) in record {
+      let room : k + length needle ≤ length hay = grind (arith, length-map) in record {
         fits = room;
         reads = λ j inside. sym (get_or-map image hay (k + j) 0 0 (omega (arith, inside, room)))
             ∙ occurs.reads j (omega (arith, inside, length-map needle image))
@@ -533,16 +422,11 @@ module _ (image : ℕ → ℕ) (hay needle : List ℕ) where
       → (map image (slice_range hay k (k + length needle)) ≡ map image needle)
       ↔ OccursBy image hay needle k
   part_is k fits =
-      let size : k + length needle - k ≡ length (map image needle) =
-      omega (arith, length-map needle image) in
+      let size : k + length needle - k ≡ length (map image needle) = grind (arith, length-map) in
       let part : map image (slice_range hay k (k + length needle))
       ≡ take (length (map image needle)) (drop k (map image hay)) =
-      ap (λ n. map image (take n (drop k hay))) size
-      ∙ sym (take-map image (length (map image needle)) (drop k hay))
-      ∙ ap (take (length (map image needle))) (sym (drop-map image k hay)) in (
-        λ same. images_occur k (OccursAt-from_part (map image hay) (map image needle) k
-            (omega (arith, fits, length-map hay image, length-map needle image))
-            (sym part ∙ same)),
+      grind (arith, take-map, drop-map) in (
+        λ same. images_occur k (grind (arith, OccursAt-from_part, length-map)),
         λ occurs. part ∙ OccursAt-part (map image hay) (map image needle) k
             (occurs_images k occurs),
       )
@@ -550,14 +434,7 @@ module _ (image : ℕ → ℕ) (hay needle : List ℕ) where
 -- a byte is a letter in one of its cases exactly if its image in lower case is that of the letter
 pub either_case : (code lower upper : ℕ) → lower ≡ lower_image code → upper ≡ upper_image code
     → (x : ℕ) → (is_byte2 lower upper x ≡ true) ↔ (lower_image x ≡ lower_image code)
-either_case code lower upper low up x =
-    rw (low, up) (λ either. grind (arith, nat_tests), λ same. grind (arith, nat_tests))
+either_case code lower upper low up x = grind (arith, nat_tests)
 
 pub one_case : (code x : ℕ) → (is_byte2 code code x ≡ true) ↔ (itself x ≡ itself code)
-one_case code x = (
-  λ is. elim (or_cases (eqb x code) (eqb x code) is) [
-    | inl same ↦ eqb-true _ _ same
-    | inr same ↦ eqb-true _ _ same
-  ],
-  λ same. Bool.or_left (eqb x code) (eqb x code) (eq-eqb _ _ same),
-)
+one_case code x = grind (arith, or_cases, eqb, eqb-true, eq-eqb)

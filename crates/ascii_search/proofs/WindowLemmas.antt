@@ -1,6 +1,6 @@
 -- Where a needle is in a window of a text, and in the text.
-use Rattle.std.proofs.Common.{◌≡◌, ◌∙◌, ◌+◌, ◌-◌, ◌<◌, ◌≤◌, ℕ, List, get_or, length, arith, sym}
-use Rattle.std.proofs.Common.{ap, drop, map, subst, take}
+use Rattle.std.proofs.Common.{◌≡◌, ◌+◌, ◌-◌, ◌<◌, ◌≤◌, ℕ, List, get_or, length, arith, drop, map}
+use Rattle.std.proofs.Common.{subst}
 use Rattle.std.specs.List.{slice_range}
 use Rattle.std.proofs.lemmas.List.{drop-map, get_or-drop, get_or-take, length-drop, length-take}
 use Rattle.std.proofs.lemmas.List.{take-map}
@@ -10,8 +10,7 @@ use Rattle.ascii_search.proofs.MasksLemmas.{nowhere_in_both}
 -- the image of a window is the window of the image
 pub image_of_window : (image : ℕ → ℕ) (hay : List ℕ) (start end : ℕ)
     → map image (slice_range hay start end) ≡ slice_range (map image hay) start end
-image_of_window image hay start end = sym (take-map image (end - start) (drop start hay))
-    ∙ ap (take (end - start)) (sym (drop-map image start hay))
+image_of_window image hay start end = grind (arith, take-map, drop-map)
 
 -- the window from `start` up to `end`, and no needle from `from` up to `start`
 module _ (hay needle : List ℕ) (start end : ℕ) (order : start ≤ end) (inside : end ≤ length hay)
@@ -23,26 +22,17 @@ module _ (hay needle : List ℕ) (start end : ℕ) (order : start ≤ end) (insi
   size = omega (arith, length-take (end - start) (drop start hay), length-drop start hay)
 
   reads : (i : ℕ) → start + i < end → get_or window i 0 ≡ get_or hay (start + i) 0
-  reads i l = get_or-take (end - start) (drop start hay) i 0 (omega (arith, l))
-      ∙ get_or-drop start hay i 0
+  reads i l = grind (arith, get_or-take, get_or-drop)
 
   there : (k j : ℕ) → start + k + j ≡ start + (k + j)
   there k j = omega arith
 
   in_text : (k : ℕ) → OccursAt window needle k → OccursAt hay needle (start + k)
-  in_text k occurs = let fits = occurs.fits in record {
-    fits = omega (arith, fits, size);
-    reads = λ j l. ap (λ i. get_or hay i 0) (there k j)
-        ∙ sym (reads (k + j) (omega (arith, l, fits, size))) ∙ occurs.reads j l;
-  }
+  in_text k occurs = let fits = occurs.fits in grind (arith, size, reads, there)
 
   in_window : (k : ℕ) → start + k + length needle ≤ end → OccursAt hay needle (start + k)
       → OccursAt window needle k
-  in_window k ends occurs = record {
-    fits = omega (arith, ends, size);
-    reads = λ j l. reads (k + j) (omega (arith, l, ends))
-        ∙ ap (λ i. get_or hay i 0) (sym (there k j)) ∙ occurs.reads j l;
-  }
+  in_window k ends occurs = grind (arith, size, reads, there)
 
   nowhere_up_to : (k : ℕ) → Nowhere (OccursAt window needle) 0 k
       → start + k + length needle ≤ end + 1 → Nowhere (OccursAt hay needle) from (start + k)

@@ -1,6 +1,4 @@
-use Rattle.std.proofs.Common.{arith, false, subst, true}
-use Rattle.ascii_base.specs.Runs.{EndsRun}
-use Rattle.ascii_search.specs.Marked.{Shows}
+use Rattle.std.proofs.Common.{arith, false, true}
 use Rattle.ascii_search.proofs.MarkedLemmas.{cut_first, gap_run, piece_on}
 use Rattle.ascii_search.proofs.marked.first_piece.Goals as goal
 use Rattle.ascii_search.proofs.marked.first_piece.Goals.{else-bytes-lt-FEWEST, then-bytes-lt-FEWEST}
@@ -10,11 +8,9 @@ returns-then-marks-eq0-clause-end g c =
     let text = c.args.bytes.now in
     let end = c.piece_end.result in
     elim c.if-bytes-lt-FEWEST.branch [
-      | then-bytes-lt-FEWEST w ↦
-          subst (λ n. EndsRun g.C.Class.is false text n end) w.marked-is c.piece_end.ensures
+      | then-bytes-lt-FEWEST w ↦ grind arith
       | else-bytes-lt-FEWEST w ↦ piece_on g.C.Class.is text c.renewed-marks.result.at _ end
-          (subst (Shows g.C.Class.is true text c.renewed-marks.result.at) c.if-marks-eq0.true
-          (c.renewed-marks.ensures.any w.if-bytes-lt-FEWEST.false))
+          (grind arith)
           (omega (arith, w.marked-is, w.saturating_sub-marked.ensures)) c.piece_end.ensures
     ]
 

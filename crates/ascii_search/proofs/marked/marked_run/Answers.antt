@@ -22,5 +22,4 @@ overflow_sub-result g c = ends g.C.Class.is _ c.args.bytes.now c.args.marks.at c
     c.lowest.result c.requires.marks c.lowest.ensures c.lowest-stop.result c.lowest-stop.ensures
 
 pub returns : goal.returns
-returns g c = near_run g.C.Class.is _ c.args.bytes.now c.args.marks.at c.args.marks.mask
-    c.lowest.result c.requires.marks c.lowest.ensures c.lowest-stop.result c.lowest-stop.ensures
+returns g c = grind (arith, near_run)

@@ -1,6 +1,4 @@
-use Rattle.std.proofs.Common.{◌≡◌, ◌-◌, arith, false, length, subst, true}
-use Rattle.ascii_base.specs.Runs.{StartsRun}
-use Rattle.ascii_search.specs.Marked.{ShowsLast}
+use Rattle.std.proofs.Common.{◌-◌, arith, false, true}
 use Rattle.ascii_search.proofs.MarkedBackLemmas.{cut_last, gap_run_back, piece_on_back}
 use Rattle.ascii_search.proofs.marked_back.last_piece.Goals as goal
 use Rattle.ascii_search.proofs.marked_back.last_piece.Goals.{else-bytes-lt-FEWEST}
@@ -11,14 +9,9 @@ returns-then-marks-eq0-clause-start g c =
     let text = c.args.bytes.now in
     let start = c.piece_start-start.result in
     elim c.if-bytes-lt-FEWEST.branch [
-      | then-bytes-lt-FEWEST w ↦
-          let all : length text - c.if-bytes-lt-FEWEST.marked ≡ length text =
-          omega (arith, w.marked-is) in
-          subst (λ n. StartsRun g.C.Class.is false text n start) all c.piece_start-start.ensures
+      | then-bytes-lt-FEWEST w ↦ grind arith
       | else-bytes-lt-FEWEST w ↦ piece_on_back g.C.Class.is text c.renewed-marks.result.at _
-          start (subst (ShowsLast g.C.Class.is true text c.renewed-marks.result.at)
-          c.if-marks-eq0.true (c.renewed-marks.ensures.any w.if-bytes-lt-FEWEST.false))
-          (omega (arith, w.marked-is)) (omega arith) c.piece_start-start.ensures
+          start (grind arith) (omega (arith, w.marked-is)) (omega arith) c.piece_start-start.ensures
     ]
 
 pub returns-clause-start : goal.returns-clause-start

@@ -17,8 +17,7 @@ returns g c =
     marks_of_three image hay needle start g.row.N c.requires.lanes c.requires.room
     start (start + middle) (start + end) _ _ _ _ _ _ (omega arith) (omega arith) (omega arith)
     (λ k l occurs i.
-    reads_byte image hay needle start k 0 start _ _ first_cases occurs (omega arith)
-    (omega arith) i
+    reads_byte image hay needle start k 0 start _ _ first_cases occurs (omega arith) (omega arith) i
     && reads_byte image hay needle start k middle (start + middle) _ _ middle_cases occurs
     (omega arith) (omega arith) i
     && reads_byte image hay needle start k end (start + end) _ _ end_cases occurs
@@ -26,8 +25,6 @@ returns g c =
     (λ k l is. let three = and_parts _ _ is in let two = and_parts _ _ three.0 in record {
       fits = omega (arith, c.requires.room);
       first = has_byte image hay needle start k 0 start _ _ first_cases (omega arith) two.0;
-      middle = has_byte image hay needle start k middle (start + middle) _ _ middle_cases
-          (omega arith) two.1;
-      last = has_byte image hay needle start k end (start + end) _ _ end_cases (omega arith)
-          three.1;
+      middle = grind (arith, has_byte);
+      last = grind (arith, has_byte);
     })

@@ -6,5 +6,4 @@ pub returns : goal.returns
 returns g c =
     let last = length c.args.hay.now - length c.args.needle.now + 1 - g.row.N in
     all_positions g.M.Comparison.image c.args.hay.now c.args.needle.now (last + g.row.N) _ (omega arith) (omega arith)
-    (joined _ _ _ g.row.N last _ _ (omega arith) (omega arith) c.candidates.ensures
-    c.candidates-2.ensures)
+    (grind (arith, joined))

@@ -1,4 +1,4 @@
-use Rattle.std.proofs.Common.{◌+◌, ◌/◌, ◌^◌, sym, ◌∙◌, arith, w64}
+use Rattle.std.proofs.Common.{◌+◌, ◌/◌, ◌^◌, arith, w64}
 use Rattle.std.specs.Int.{trailing_zeros}
 use Rattle.std.proofs.lemmas.Nat.Bits.{bit_at-trailing_zeros}
 use Rattle.ascii_search.specs.Masks.{HasBit}
@@ -16,13 +16,11 @@ returns c =
     let left = mask / 2 ^ from in
     let lowest = bit_at-trailing_zeros w64 left (omega (arith, c.if-left-eq0.false))
     (omega (arith, c.ranges.mask.fits)) in
-    let has : HasBit mask (from + trailing_zeros w64 left) =
-    sym (shifted_down mask from _) ∙ lowest.1 in (
+    let has : HasBit mask (from + trailing_zeros w64 left) = grind (arith, shifted_down) in (
       record {
         low = omega arith;
         high = within_word mask _ c.ranges.mask.fits has;
-        before = none_below mask from _
-            (λ k low to is. omega (arith, is, lowest.2 k to));
+        before = none_below mask from _ (λ k low to is. omega (arith, is, lowest.2 k to));
       },
       has,
     )

@@ -8,6 +8,4 @@ returns-then-marked-eq0 g c = found_first g.M.Comparison.image c.args.hay.now c.
     (nowhere_in_block _ _ _ 0 _ c.all_candidates-marked.ensures c.if-marked-eq0.true)
 
 pub returns-then-needle-le-EXACT : goal.returns-then-needle-le-EXACT
-returns-then-needle-le-EXACT g c = found_first g.M.Comparison.image c.args.hay.now c.args.needle.now 0 64
-    c.first_marked.result
-    (λ none. omega arith) (λ k from to. absurd (omega arith)) c.first_marked.ensures
+returns-then-needle-le-EXACT g c = grind (arith, found_first)

@@ -10,8 +10,7 @@ returns-then-is_there g c =
     let needle = c.args.needle.now in
     let place = c.args.start + c.in-Some.bit in
     let short = c.in-Some.ensures.0.high in
-    let fits : place + length needle ≤ length hay =
-    (c.requires.marks.set _ c.in-Some.ensures.1).1.fits in (
+    let fits : place + length needle ≤ length hay = grind arith in (
       record {
         low = omega arith;
         high = omega (arith, short);
@@ -28,8 +27,7 @@ loop-bit-preserved g c =
     let needle = c.args.needle.now in
     let place = c.args.start + c.in-Some.bit in
     let short = c.in-Some.ensures.0.high in
-    let fits : place + length needle ≤ length hay =
-    (c.requires.marks.set _ c.in-Some.ensures.1).1.fits in
+    let fits : place + length needle ≤ length hay = grind arith in
     let before = nowhere_in_both (OccursBy g.M.Comparison.image hay needle) _ (c.args.start + c.loop-bit.tested) place
     c.loop-bit.invariant.before (nowhere_marked _ _ _ _ 64 _ _ _ c.requires.marks
     (omega (arith, short)) c.in-Some.ensures.0.before) in

@@ -13,10 +13,7 @@ returns-in-Some c =
     (omega (arith, c.min-end.ensures, c.loop-start-test.true))
     (omega (arith, c.min-end.ensures, length-map hay lower_image))
     c.args.from c.loop-start.invariant.after c.loop-start.invariant.before c.in-Some.found
-    (rw (
-      c.in_lower_case-window.ensures ∙ image_of_window lower_image hay start end,
-      c.in_lower_case-folded.ensures,
-    ) at c.in-Some.ensures)
+    (grind (arith, image_of_window))
 
 pub loop-start-preserved : goal.loop-start-preserved
 loop-start-preserved c =
@@ -25,13 +22,11 @@ loop-start-preserved c =
     let start = c.loop-start.start in
     let end = c.min-end.result in
     let size = length-map needle lower_image in
-    let fits : start + length needle ≤ end =
-    omega (arith, c.min-end.ensures, c.loop-start-test.true, c.requires.short) in
+    let fits : start + length needle ≤ end = grind arith in
     let before = nowhere_in_window (map lower_image hay) (map lower_image needle) start end
     (omega (arith, fits)) (omega (arith, c.min-end.ensures, length-map hay lower_image))
     c.args.from c.loop-start.invariant.after c.loop-start.invariant.before
-    (omega (arith, fits, size))
-    (rw (
+    (omega (arith, fits, size)) (rw (
       c.in_lower_case-window.ensures ∙ image_of_window lower_image hay start end,
       c.in_lower_case-folded.ensures,
     ) at c.in_default.ensures) in
