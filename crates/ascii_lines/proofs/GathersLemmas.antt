@@ -1,7 +1,7 @@
 -- What a source gave while something was wanted, one read after another.
 use Rattle.std.proofs.Common.{◌≡◌, ◌≢◌, ◌==◌, List, [], ◌∷◌, ◌++◌, ℕ, Bool, true, append_assoc}
-use Rattle.std.proofs.Common.{append-nil, arith, eqb-true, false, length, refl, inl, inr, subst}
-use Rattle.std.proofs.Common.{sym, ◌⊎◌, ◌∙◌}
+use Rattle.std.proofs.Common.{append-nil, arith, eqb-true, false, length, refl, subst, sym, ◌⊎◌}
+use Rattle.std.proofs.Common.{◌∙◌}
 use Rattle.std.specs.List.{All}
 use Rattle.std.proofs.lemmas.Bool.{false≢true}
 use Rattle.std.proofs.lemmas.List.Elements.{All-head, All-nil, All-push, All-tail}
@@ -43,9 +43,6 @@ reaches_read : (was mid is : Bool) (reads : List (List ℕ)) (read : List ℕ)
     → ReachesEnd was (reads ++ read ∷ []) is
 reaches_read was mid is reads read so_far more last = grind arith
 
-pub no_reads_reach : (is_at_end : Bool) → ReachesEnd is_at_end [] is_at_end
-no_reads_reach is_at_end = grind arith
-
 -- what a reader remembers of a read tells whether it returned bytes
 pub is_none : (read : List ℕ) → (length read == 0) ≡ true → read ≡ []
 is_none [] zero = refl
@@ -56,8 +53,7 @@ is_some read other = grind arith
 
 pub Gathers-nil : (Must : List ℕ → Type 0) (held : List ℕ) (is_at_end : Bool) (a : SourceState)
     → KnowsEnd is_at_end a.rest → Gathers Must held is_at_end is_at_end a a held
-Gathers-nil Must held is_at_end a end =
-    grind (arith, Gives-nil, Grows-nil, append-nil, no_reads_reach, All-nil)
+Gathers-nil Must held is_at_end a end = grind (arith, Gives-nil, Grows-nil, append-nil, All-nil)
 
 module _ (Must : List ℕ → Type 0) (held : List ℕ) (was mid is : Bool) (a b c : SourceState)
     (text read : List ℕ) (so_far : Gathers Must held was mid a b text) (more : mid ≡ false)
@@ -91,11 +87,8 @@ pub Gathers-failed : (Must : List ℕ → Type 0) (held : List ℕ) (was mid is 
     (a b c : SourceState) (text new : List ℕ) → Gathers Must held was mid a b text → mid ≡ false
     → b.failures ≡ a.failures → Must text → FailsOnce b c ⊎ (c ≡ b) → new ≡ text → is ≡ mid
     → Gathers Must held was is a c new
-Gathers-failed Must held was mid is a b c text new so_far more kept must (inr same) all last =
-    rw (same, all, last) so_far
-Gathers-failed Must held was mid is a b c text new so_far more kept must (inl fails) all last =
-    subst (Gathers Must held was is a c) (append-nil text ∙ sym all)
-    (grind (arith, once, read_fails, false≢true))
+Gathers-failed Must held was mid is a b c text new so_far more kept must given all last =
+    grind (arith, append-nil text, once, read_fails, false≢true)
 
 -- how many reads may yet return no bytes
 abbrev pub reads_left : Bool → ℕ

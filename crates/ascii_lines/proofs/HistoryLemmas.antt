@@ -5,7 +5,7 @@ use Rattle.ascii_devices.proofs.HistoryLemmas.{Grows-trans, sent_of-all, sent_of
 use Rattle.ascii_devices.specs.Devices.{Grows, received_of, sent_of, write_of}
 use Rattle.ascii_devices.specs.declared.log.Event.{Event}
 use Rattle.ascii_devices.specs.declared.log.Event.TheVariants.{Flushed, Read, Received, Sent}
-use Rattle.ascii_lines.specs.History.{AreWrites, EndsInEmptyRead, TellsSent}
+use Rattle.ascii_lines.specs.History.{AreWrites, TellsSent}
 use Rattle.ascii_lines.specs.Serve.{AtEachRead, IsFlushed}
 
 pub AreWrites-append : (xs ys : List Event) → AreWrites xs → AreWrites ys → AreWrites (xs ++ ys)
@@ -87,8 +87,3 @@ pub IsFlushed-last : (events : List Event) → IsFlushed (events ++ Flushed ∷ 
 IsFlushed-last events = (events, [], refl, refl)
 
 -- ---- the end of an input
-
--- writes after a read that gave no bytes
-pub EndsInEmptyRead-writes : (events more : List Event) → AreWrites more
-    → EndsInEmptyRead events → EndsInEmptyRead (events ++ more)
-EndsInEmptyRead-writes events more writes is = grind (arith, append_assoc, AreWrites-append)

@@ -79,11 +79,6 @@ LineSpansEndedBy-append kind start t u xs ys first ended then =
 
 -- ---- one call more
 
--- what one call took
-pub reads_of : (wanted : Wanted) (old : ReaderState) (bytes : List ℕ) (new : ReaderState)
-    → Takes wanted old bytes new → ReadsBytes old bytes new
-reads_of wanted old bytes new takes = grind arith
-
 -- some bytes, and then more
 pub PassesOver-trans : (a b c : ReaderState) (bytes more : List ℕ) → ReadsBytes a bytes b
     → PassesOver b more c → PassesOver a (bytes ++ more) c
@@ -102,10 +97,8 @@ PassesOver-trans a b c bytes more first then =
 
 pub ReadsBytes-trans : (a b c : ReaderState) (bytes more : List ℕ) → ReadsBytes a bytes b
     → ReadsBytes b more c → ReadsBytes a (bytes ++ more) c
-ReadsBytes-trans a b c bytes more first then = record {
-  over = PassesOver-trans a b c bytes more first then.over;
-  failures = then.failures ∙ first.failures;
-}
+ReadsBytes-trans a b c bytes more first then =
+    grind (arith, PassesOver-trans a b c bytes more first then.over)
 
 -- ---- one line more
 
@@ -129,11 +122,11 @@ YieldsLines-append a b c lines others first ended then =
 -- one line is a list of lines
 pub one_line : (wanted : Wanted) (old : ReaderState) (line : WithStart Line) (new : ReaderState)
     → TakesLine wanted old line new → YieldsLines old (line ∷ []) new
-one_line wanted old line new takes = grind (arith, reads_of, All-cons, All-nil)
+one_line wanted old line new takes = grind (arith, All-cons, All-nil)
 
 pub no_line : (wanted : Wanted) (old new : ReaderState) → Takes wanted old [] new → IsDone new
     → YieldsLines old [] new
-no_line wanted old new takes done = grind (arith, reads_of, LinesEndedBy-nil)
+no_line wanted old new takes done = grind (arith, LinesEndedBy-nil)
 
 -- nothing was read yet
 pub yields_nil : (old : ReaderState) → old.stage ≡ Open → YieldsLines old [] old

@@ -11,18 +11,13 @@ use Rattle.ascii_lines.specs.Wanted.{IsLoneBreak}
 use Rattle.ascii_lines.specs.declared.line_reader.LineError.TheVariants.{LoneBreak}
 use Rattle.ascii_lines.specs.declared.wanted.Wanted.TheVariants.{Line}
 
--- a byte of the first of two parts
-in_front : (all text others : List ℕ) (k : ℕ) → all ≡ text ++ others → k < length text
-    → get_or text k 0 ≡ get_or all k 0
-in_front all text others k parts low = grind (arith, get_or-append)
-
 module _ (size i j n : ℕ) (all text : List ℕ) (is_at_end : Bool) (same : i ≡ j)
     (inside : i + 1 < length all) (cr : get_or all i 0 ≡ 13) (feed : get_or all (i + 1) 0 ≡ 10)
   where
     -- a CR with an LF after it is not alone, also if the LF came later
     cr_lf_not_lone : (others : List ℕ) → all ≡ text ++ others
         → IsLoneBreak (Line CrLfStrict) size text (at_end_before others is_at_end) j n → ⊥
-    cr_lf_not_lone others parts lone = grind (arith, in_front, length-append, false≢true)
+    cr_lf_not_lone others parts lone = grind (arith, length-append, false≢true, get_or-append)
 
 -- a strict conversation that was sent `ab` CR LF does not reject it for the CR
 pub ab_cr_lf_is_not_lone : (now : Supply) (size : ℕ) (more : List ℕ)

@@ -1,13 +1,12 @@
 -- Replies of a handler, one after another.
 use Rattle.std.proofs.Common.{◌≡◌, ℕ, List, [], ◌∷◌, ◌++◌, Bool, true, false, IsTrue, append_assoc}
-use Rattle.std.proofs.Common.{append-nil, Result, ap, inl, inr, refl, ◌∙◌, arith}
+use Rattle.std.proofs.Common.{append-nil, Result, inl, inr, refl, ◌∙◌, arith}
 use Rattle.std.proofs.lemmas.Bool.{false≢true}
 use Rattle.std.proofs.lemmas.Grind.{flat_map-append}
 use Rattle.std.proofs.lemmas.List.Folds.{list_all_at}
 use Rattle.std.proofs.KnownBytes.{Appends-nil}
 use Rattle.ascii_devices.proofs.HistoryLemmas.{Grows-nil}
 use Rattle.ascii_devices.specs.Buffered.{OutputState}
-use Rattle.ascii_lines.specs.Failures.{one_more}
 use Rattle.ascii_lines.specs.LineWriter.{FailsToWrite, WritesBytes}
 use Rattle.ascii_lines.specs.Replies.{Reply, IsLineOutcome, Says, SaysBytes, Saying, is_unbroken}
 use Rattle.ascii_lines.specs.Replies.{line_given, line_reply, part_reply, reply_text}
@@ -21,17 +20,8 @@ WritesBytes-trans {a} {b} {c} xs ys first then = grind (arith, Passes-trans)
 
 FailsToWrite-after : {a b c : OutputState} (xs ys : List ℕ)
     → WritesBytes a b xs → FailsToWrite b c ys → FailsToWrite a c (xs ++ ys)
-FailsToWrite-after {a} {b} {c} xs ys first then = record {
-  passed = Passes-prefix xs ys first.passed then.passed;
-  failures = then.failures ∙ ap one_more first.failures;
-  aside = then.aside ∙ first.aside;
-  stage = then.stage;
-  size = then.size ∙ first.size;
-}
-
-FailsToWrite-more : {a b : OutputState} (xs ys : List ℕ)
-    → FailsToWrite a b xs → FailsToWrite a b (xs ++ ys)
-FailsToWrite-more {a} {b} xs ys fails = grind (arith, PassesPrefix-more)
+FailsToWrite-after {a} {b} {c} xs ys first then =
+    grind (arith, Passes-prefix xs ys first.passed then.passed)
 
 -- nothing was written
 SaysBytes-nil : (broken : Bool) (a : OutputState) → a.buffer.is_broken ≡ broken
@@ -47,10 +37,7 @@ SaysBytes-trans false false a b c xs ys was is (inl first) (inl then) =
 SaysBytes-trans false false a b c xs ys was is (inl first) (inr then) =
     inr (FailsToWrite-after xs ys first then)
 SaysBytes-trans false false a b c xs ys was is (inr first) then = grind (arith, false≢true)
-SaysBytes-trans false true a b c xs ys was is (inl first) then = grind (arith, false≢true)
-SaysBytes-trans false true a b c xs ys was is (inr first) then = grind (arith, FailsToWrite-more)
-SaysBytes-trans true false a b c xs ys was is first then = absurd (grind (arith, false≢true))
-SaysBytes-trans true true a b c xs ys was is first then = then ∙ first
+SaysBytes-trans p q a b c xs ys was is first then = grind (arith, false≢true, PassesPrefix-more)
 
 -- ---- replies after replies
 

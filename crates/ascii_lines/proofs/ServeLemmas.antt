@@ -1,7 +1,7 @@
 -- A conversation over a device: steps, writes and reads, one after another.
-use Rattle.std.proofs.Common.{◌≡◌, ◌≢◌, ◌⊎◌, ◌∙◌, ℕ, ◌+◌, ◌-◌, ◌^◌, ◌<◌, ◌≤◌, List, [], ◌∷◌, ◌++◌}
-use Rattle.std.proofs.Common.{Bool, Err, None, Ok, Some, ap, append_assoc, append-nil, arith, false}
-use Rattle.std.proofs.Common.{inl, inr, length, length-append, refl, subst, sym, true, ◌==◌}
+use Rattle.std.proofs.Common.{◌≡◌, ◌≢◌, ◌⊎◌, ◌∙◌, ℕ, ◌+◌, ◌-◌, ◌^◌, ◌<◌, List, [], ◌∷◌, ◌++◌, Bool}
+use Rattle.std.proofs.Common.{Err, None, Ok, Some, ap, append_assoc, append-nil, arith, false, inl}
+use Rattle.std.proofs.Common.{inr, length, length-append, refl, subst, sym, true, ◌==◌}
 use Rattle.std.proofs.KnownBytes.{Appends-nil, Appends-trans}
 use Rattle.std.proofs.lemmas.Bool.{false≢true}
 use Rattle.std.proofs.lemmas.Grind.{flat_map-append}
@@ -20,7 +20,7 @@ use Rattle.ascii_devices.specs.declared.log.Event.TheVariants.{Flushed, Read}
 use Rattle.ascii_lines.specs.Exchanges.{bytes_of, said_in}
 use Rattle.ascii_lines.specs.History.{AreWrites, EndsInEmptyRead, TellsSent}
 use Rattle.ascii_lines.specs.LineBuffer.{ReadsOnce}
-use Rattle.ascii_lines.specs.LineWriter.{Flushes, FlushesFrom, Writing}
+use Rattle.ascii_lines.specs.LineWriter.{Flushes, FlushesFrom}
 use Rattle.ascii_lines.specs.Replies.{Reply, SaysBytes, Saying, Step, reply_bytes}
 use Rattle.ascii_lines.specs.Serve.{AtEachRead, ChannelState, CountsBy, IsAnswered, IsFlushed}
 use Rattle.ascii_lines.specs.Serve.{IsRead, IsUnread, IsUp, ReadsOn, SendsOut, SentBy, Serves}
@@ -41,18 +41,11 @@ use Rattle.ascii_lines.specs.declared.serving.Stop.TheVariants as stop
 use Rattle.ascii_lines.proofs.GathersLemmas.{is_none, is_some}
 use Rattle.ascii_lines.proofs.HistoryLemmas.{AreWrites-append, AreWrites-sent, AtEachRead-append}
 use Rattle.ascii_lines.proofs.HistoryLemmas.{AtEachRead-received, AtEachRead-writes}
-use Rattle.ascii_lines.proofs.HistoryLemmas.{EndsInEmptyRead-writes, IsFlushed-after}
-use Rattle.ascii_lines.proofs.HistoryLemmas.{IsFlushed-last, received_of-bytes, received_of-writes}
-use Rattle.ascii_lines.proofs.HistoryLemmas.{sent_of-bytes}
+use Rattle.ascii_lines.proofs.HistoryLemmas.{IsFlushed-after, IsFlushed-last, received_of-bytes}
+use Rattle.ascii_lines.proofs.HistoryLemmas.{received_of-writes, sent_of-bytes}
 use Rattle.ascii_lines.proofs.TurnsLemmas.{Turns-append, Turns-bytes, Turns-more, said-append}
 use Rattle.ascii_lines.proofs.TurnsLemmas.{supply_ended}
 use Rattle.ascii_lines.proofs.WantedLemmas.{some_length}
-
--- what was sent and held, and then more
-SentBy-after : (q : Bool) (sent more held mid before first second : List ℕ)
-    → sent ++ mid ≡ before ++ first → SentBy q more held (mid ++ second)
-    → SentBy q (sent ++ more) held (before ++ (first ++ second))
-SentBy-after q sent more held mid before first second one two = grind (arith, append_two)
 
 -- some bytes were given, and then others written
 then_written : (a b c : OutputState) (bytes : List ℕ) (events : List Event)
@@ -90,16 +83,9 @@ reads_of awaited talk = read_room talk
 abbrev pub reads_left : TalkState → ℕ
 reads_left talk = reads_of talk.awaited talk
 
-reads_most : (awaited : Awaited) (talk : TalkState) → reads_of awaited talk ≤ read_room talk
-reads_most awaited talk = grind arith
-
 reads_all : (awaited : Awaited) (talk : TalkState) → ¬ (IsOver awaited)
     → reads_of awaited talk ≡ read_room talk
 reads_all awaited talk apart = grind arith
-
-lacks_length : (endings : Endings) (size : ℕ) (awaited : Awaited) (start : ℕ) (held : List ℕ)
-    → Lacks endings size awaited start held → length held ≤ size + 1
-lacks_length endings size awaited start held lacks = grind arith
 
 -- why a conversation is over, or that it is not
 pub stop_is : (awaited : Awaited) (why : Stop) → stop_of awaited ≡ Some why
@@ -113,11 +99,6 @@ stop_none awaited is over = grind arith
 pub read_is : {a b : SourceState} (is_at_end : Bool) (read : List ℕ)
     → is_at_end ≡ (length read == 0) → ReadsOnce a b read → IsRead (supply_at is_at_end) a b read
 read_is {a} {b} is_at_end read is reads = grind (arith, is_none, is_some)
-
--- a flush that was done
-flushed_by : {C : Type 0} (q : Bool) (a b : Writing C) (done : Unit {0})
-    → FlushesFrom q a (Ok done) b → (q ≡ false) × Flushes a.state b.state
-flushed_by q a b done flushes = grind arith
 
 pub then_right : {P Q : Type 0} → P ⊎ Q → ¬ P → Q
 then_right first apart = grind arith
@@ -185,15 +166,7 @@ module _ {H : Type 0} (answers : H → Line → List Reply → Next → H → Ty
       → (is_ended then ≡ true → (old.talk.is_at_end ≡ true) ⊎ EndsInEmptyRead (o.events ++ events))
       → (then ≢ supply.Failed → b.aside.failures ≡ old.output.aside.failures) → Base then new b
   base-more a b o whole steps more events said turns grows prompt gave took sent count at_end kept =
-      grind (
-        arith,
-        Grows-trans,
-        AtEachRead-append,
-        sent_of-append,
-        Appends-trans,
-        flat_map-append,
-        SentBy-after,
-      )
+      grind (arith, Grows-trans, AtEachRead-append, sent_of-append, Appends-trans, flat_map-append, append_two)
 
   -- writes, for the replies to more steps
   base-writes : {now : Supply} {mid new : Place H} (a b : OutputState) → Base now mid a
@@ -211,7 +184,7 @@ module _ {H : Type 0} (answers : H → Line → List Reply → Next → H → Ty
       (grind (arith, Turns-append))
       told.grows (AtEachRead-writes Answered o.events told.events told.writes)
       (grind (arith, then_written)) (rw told.noted took) (rw told.noted held) count
-      (grind (arith, EndsInEmptyRead-writes)) (rw aside o.kept)
+      (grind (arith, append_assoc, AreWrites-append)) (rw aside o.kept)
 
   -- the replies to more steps
   base-says : {now : Supply} {mid new : Place H} (a b : OutputState) → Base now mid a
@@ -385,19 +358,7 @@ module _ {H : Type 0} (answers : H → Line → List Reply → Next → H → Ty
     so = rw same held
 
     base_of : Base so.talk.now (place_of now.state.talk last) mid.state.output
-    base_of = record {
-      steps = so.talk.steps;
-      events = so.talk.events;
-      turns = so.talk.turns;
-      grows = so.talk.grows;
-      prompt = so.talk.prompt;
-      gave = so.talk.gave;
-      took = so.talk.took;
-      sent = so.sent;
-      count = so.count;
-      at_end = λ is. so.talk.at_end (sym so.talk.ended ∙ is);
-      kept = λ apart. elim so.talk.reads [ inl same ↦ same | inr unread ↦ absurd (apart unread.0) ];
-    }
+    base_of = grind arith
 
     -- the talk, after writes
     abbrev talk_after : now.state.output.aside ≡ mid.state.output.aside
@@ -438,7 +399,7 @@ module _ {H : Type 0} (answers : H → Line → List Reply → Next → H → Ty
     module _ (done : Unit {0}) (sends : SendsOut (saying_of mid) (Ok done) (saying_of now)) where
       flushed : (mid.state.output.buffer.is_broken ≡ false)
           × Flushes mid.state.output now.state.output
-      flushed = grind (arith, flushed_by)
+      flushed = grind arith
 
       settled : Settled so.talk.now (place_of now.state.talk last) now.state.output
       settled = base-flushed mid.state.output now.state.output base_of flushed.0 flushed.1
@@ -458,13 +419,7 @@ module _ {H : Type 0} (answers : H → Line → List Reply → Next → H → Ty
               → Wrote why old.output settled.base.events (said_bytes settled.base.steps)
               now.state.output
           wrote stop.Writer is = absurd (false≢true (sym flushed.0 ∙ so.failed is))
-          wrote _ is = (
-            settled_sent settled,
-            settled.flushed,
-            settled.none,
-            rw settled.whole at settled.base.count,
-            settled.whole,
-          )
+          wrote _ is = grind (arith, settled_sent settled, settled)
 
       -- the device was read once more
       module _ (apart : ¬ (IsOver now.state.talk.awaited)) (said : Saying C) (new : TalkState)
@@ -497,7 +452,7 @@ module _ {H : Type 0} (answers : H → Line → List Reply → Next → H → Ty
           reads_smaller low = rw (← same) (go r.now r.reads converses_now)
             where
               some : 0 < reads_left now.state.talk
-              some = grind (arith, reads_all, lacks_length, lacks_now)
+              some = grind (arith, reads_all, lacks_now)
 
               go : (now' : Supply)
                   → IsRead now' (read_side now.state.output) (read_side r.mid.state) r.read
@@ -505,19 +460,14 @@ module _ {H : Type 0} (answers : H → Line → List Reply → Next → H → Ty
                   (place_with now.state.talk last r.read) r.mid (place_of new next) said
                   → reads_left new < reads_left now.state.talk
               go supply.Open (reads, more) c =
-                  let moved = Turns-bytes answers refuses endings size supply.Open
-                  (place_with now.state.talk last r.read) (place_of new next) c.steps c.turns in
-                  omega (
+                  grind (
                     arith,
-                    ap length moved.0,
-                    moved.1,
-                    length-append (bytes_of c.steps) new.held,
+                    Turns-bytes,
                     length-append now.state.talk.held r.read,
+                    length-append (bytes_of c.steps) new.held,
                     some_length r.read more,
                     reads_all now.state.talk.awaited now.state.talk apart,
                     some,
-                    r.size,
-                    reads_most new.awaited new,
                   )
               go _ reads c = grind (arith, some)
 

@@ -8,7 +8,6 @@ use Rattle.std.proofs.lemmas.List.{get_or-append-add, get_or-drop, length-drop, 
 use Rattle.std.proofs.lemmas.List.{take-append-drop, take_all, drop_all, nil_from_length}
 use Rattle.ascii.specs.Endings.{FreeUpTo, IsFirstStop, StopsAt, any_text}
 use Rattle.ascii.specs.declared.iter.spans.Endings.{Endings}
-use Rattle.ascii.specs.declared.iter.spans.Endings.TheVariants.{Any, CrLf, CrLfStrict}
 use Rattle.ascii.proofs.EndingsLemmas.{FreeUpTo-same, IsFirstStop-same, FreeUpTo-more}
 use Rattle.ascii_devices.specs.States.{SourceState}
 use Rattle.ascii_lines.proofs.GathersLemmas.{Gathers-failed, Gathers-nil, Gathers-read}
@@ -28,28 +27,14 @@ module _ (bytes text : List ℕ) where
   right_at : (j : ℕ) → get_or (bytes ++ text) (length bytes + j) 0 ≡ get_or text j 0
   right_at j = get_or-append-add bytes text j 0
 
-  -- the byte before one of the second part, which is LF, if it is CR
-  cr_before : IsCleanCut CrLf bytes text → (j : ℕ)
-      → get_or (bytes ++ text) (length bytes + j - 1) 0 ≡ 13 → get_or text j 0 ≡ 10
-      → get_or text (j - 1) 0 ≡ 13
-  cr_before clean j cr feed = grind (arith, get_or-append-add, get_or-append, nil_from_length)
-
   stop_right : (endings : Endings) → any_text endings ≡ endings → IsCleanCut endings bytes text
       → (j : ℕ) → StopsAt endings (bytes ++ text) (length bytes + j) → StopsAt endings text j
-  stop_right endings plain clean j stop = grind (arith, cr_before, right_at)
+  stop_right endings plain clean j stop =
+      grind (arith, right_at, get_or-append-add, get_or-append, nil_from_length)
 
   stop_back : (endings : Endings) → any_text endings ≡ endings
       → (j : ℕ) → StopsAt endings text j → StopsAt endings (bytes ++ text) (length bytes + j)
-  stop_back Any plain j stop = right_at j ∙ stop
-  stop_back CrLf plain j stop = elim (cases_lt 0 j) [
-    | inl some ↦ (
-      subst (λ i. get_or (bytes ++ text) i 0 ≡ 13) (omega (arith, some))
-          (right_at (j - 1) ∙ stop.0),
-      right_at j ∙ stop.1,
-    )
-    | inr none ↦ grind arith
-  ]
-  stop_back CrLfStrict plain j stop = cc
+  stop_back endings plain j stop = grind (arith, right_at j, right_at (j - 1), cases_lt 0 j)
 
   module _ (endings : Endings) (plain : any_text endings ≡ endings)
       (free : FreeUpTo endings bytes (length bytes)) (clean : IsCleanCut endings bytes text) where
@@ -63,12 +48,7 @@ module _ (bytes text : List ℕ) where
 
     stop_join : (n : ℕ) → IsFirstStop endings text n
         → IsFirstStop endings (bytes ++ text) (length bytes + n)
-    stop_join n stops = record {
-      some = omega (arith, stops.some);
-      last = grind (arith, stop_back);
-      free = subst (FreeUpTo endings (bytes ++ text)) (omega (arith, stops.some))
-          (free_join (n - 1) stops.free);
-    }
+    stop_join n stops = grind (arith, stops, stop_back, free, free_join (n - 1) stops.free)
 
 -- ---- bytes that were taken, in which no line ends
 
@@ -230,16 +210,14 @@ passed_more endings limit old now after a b c passed read all more reads is last
 pub passed_none : (endings : Endings) (limit : ℕ) (buffer : WindowState) (a : SourceState)
     → KnowsEnd buffer.is_at_end a.rest
     → PassedSoFar endings limit buffer buffer a a (record { count = 0; other = None })
-passed_none endings limit buffer a end = record {
-  bytes = [];
-  gathers = Gathers-nil (HasNoEnd endings) buffer.held buffer.is_at_end a end;
-  counts = record { count = refl; other = IsAscii-nil };
-  within = omega arith;
-  free = λ k low. absurd (omega (arith, low));
-  clean = λ cr_lf cr. absurd (omega (arith, cr));
-  failures = refl;
-  size = refl;
-}
+passed_none endings limit buffer a end =
+    grind (
+      arith,
+      Gathers-nil (HasNoEnd endings) buffer.held buffer.is_at_end a end,
+      IsAscii-nil,
+      free,
+      clean,
+    )
 
 -- a read failed, or was not made
 pub pass_failed : (endings : Endings) (limit : ℕ) (old now after : WindowState)

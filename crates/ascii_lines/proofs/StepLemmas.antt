@@ -6,12 +6,11 @@ use Rattle.ascii.specs.Lines.{Line}
 use Rattle.ascii.specs.declared.iter.spans.Ending.TheVariants.{Absent}
 use Rattle.ascii.specs.declared.iter.spans.Endings.{Endings}
 use Rattle.ascii_lines.specs.Exchanges.{TakesNothing, bytes_of, step_bytes}
-use Rattle.ascii_lines.specs.Replies.{IsInputOf, IsRequest, Reply, Step, rejected, skipped, took}
+use Rattle.ascii_lines.specs.Replies.{IsInputOf, Reply, Step, rejected, took}
 use Rattle.ascii_lines.specs.Steps.{Explains}
 use Rattle.ascii_lines.specs.Turns.{Completes, IsRequested, IsTurn, IsTurnAt, Place, Turns, Wants}
-use Rattle.ascii_lines.specs.Turns.{awaited_by}
 use Rattle.ascii_lines.specs.declared.conversation.Awaited.{Awaited}
-use Rattle.ascii_lines.specs.declared.conversation.Awaited.TheVariants.{Input, LineEnd}
+use Rattle.ascii_lines.specs.declared.conversation.Awaited.TheVariants.{Input}
 use Rattle.ascii_lines.specs.declared.conversation.Supply.{Supply}
 use Rattle.ascii_lines.specs.declared.conversation.Supply.TheVariants as supply
 use Rattle.ascii_lines.specs.declared.line_reader.LineError.{LineError}
@@ -20,10 +19,7 @@ use Rattle.ascii_lines.specs.declared.serving.Next.TheVariants as next
 use Rattle.ascii_lines.specs.declared.wanted.Wanted.{Wanted}
 use Rattle.ascii_lines.specs.declared.wanted.Wanted.TheVariants as wanted
 use Rattle.ascii_lines.proofs.LineReaderLemmas.{line_has_bytes}
-use Rattle.ascii_lines.proofs.TurnsLemmas.{Turns-bytes, ends_some, turn_bytes}
-
-requests_by : (then : Next) → IsRequest then → IsRequested (awaited_by then)
-requests_by then request = grind arith
+use Rattle.ascii_lines.proofs.TurnsLemmas.{Turns-bytes, turn_bytes}
 
 module _ {H : Type 0} (answers : H → Line → List Reply → Next → H → Type 0)
     (refuses : H → LineError → List Reply → Next → H → Type 0) (endings : Endings) (size : ℕ)
@@ -52,14 +48,13 @@ module _ {H : Type 0} (answers : H → Line → List Reply → Next → H → Ty
   -- what is awaited after a step was asked for
   requests : (a b : Place H) (step : Step) → IsTurn answers refuses endings size now a step b
       → IsRequested a.awaited → IsRequested b.awaited
-  requests a b step turn = grind (arith, requests_by)
+  requests a b step turn = grind arith
 
   -- what is given has a byte
   some_given : (asked : Next) (what : Wanted) (bytes left : List ℕ) (input : Line)
       → Wants endings asked what → IsRequested (Input asked) → IsInputOf what bytes input
       → Completes now what bytes left → 0 < length bytes
-  some_given asked (wanted.Part n) bytes left input wants request is completes =
-      grind (arith, ends_some)
+  some_given asked (wanted.Part n) bytes left input wants request is completes = grind arith
   some_given asked _ bytes left input wants request is completes =
       line_has_bytes _ bytes input is.0
 
@@ -85,10 +80,7 @@ module _ {H : Type 0} (answers : H → Line → List Reply → Next → H → Ty
         ap length t.9,
         length-append t.2 mid.text,
       ))
-      go (Input asked) (rejected error said) request t taken then = (t.6.5 ended none, then)
-      go (Input asked) (skipped bytes) request t taken then = (taken, then)
-      go (LineEnd asked) (skipped bytes) request t taken then = (taken, then)
-      go _ _ request t taken then = absurd t
+      go awaited step request t taken then = grind arith
 
   -- a line without an ending is the last: no byte is taken after it, and none is left
   pub unended_last : (a b c : Place H) (input : Line) (said : List Reply) (steps : List Step)

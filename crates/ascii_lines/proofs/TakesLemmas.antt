@@ -14,17 +14,16 @@ use Rattle.ascii_devices.specs.States.{SourceState}
 use Rattle.ascii_lines.specs.LineBuffer.{IsUsable, WindowState}
 use Rattle.ascii_lines.specs.LineReader.{Finds, FindsEnd, IsLookedFor, Looks, StopsBy, TakesOff}
 use Rattle.ascii_lines.specs.LineReader.{window_at}
-use Rattle.ascii_lines.specs.Wanted.{FindsFault, IsCutOff, IsEndOf, IsFar, IsLoneBreak, IsSearched}
-use Rattle.ascii_lines.specs.Wanted.{EndsAt, Gathers, IsOne, IsRefusal, IsStrict, IsUnfit}
-use Rattle.ascii_lines.specs.Wanted.{LacksUpTo, MayBeLast, MayHave, MustRead, failures_after}
+use Rattle.ascii_lines.specs.Wanted.{FindsFault, IsEndOf, IsFar, IsLoneBreak, IsSearched, EndsAt}
+use Rattle.ascii_lines.specs.Wanted.{Gathers, IsOne, IsRefusal, IsStrict, LacksUpTo, MayBeLast}
+use Rattle.ascii_lines.specs.Wanted.{MayHave, MustRead}
 use Rattle.ascii_lines.specs.declared.line_reader.LineError.{LineError}
-use Rattle.ascii_lines.specs.declared.line_reader.LineError.TheVariants.{Read}
 use Rattle.ascii_lines.specs.declared.wanted.Found.{Found}
 use Rattle.ascii_lines.specs.declared.wanted.Wanted.{Wanted}
 use Rattle.ascii_lines.specs.declared.wanted.Wanted.TheVariants.{Line, Part}
 use Rattle.ascii_lines.proofs.WantedLemmas.{ends_front, ends_whole, may_front, must_reads, rejects}
-use Rattle.ascii_lines.proofs.WantedLemmas.{searched_front, searched_lacks, searched_none}
-use Rattle.ascii_lines.proofs.WantedLemmas.{searched_whole, usable_least, some_length}
+use Rattle.ascii_lines.proofs.WantedLemmas.{searched_front, searched_none, searched_whole}
+use Rattle.ascii_lines.proofs.WantedLemmas.{usable_least, some_length}
 
 -- ---- what a search has found
 
@@ -53,11 +52,6 @@ module _ (wanted : Wanted) (start : ℕ) (buffer : WindowState) (n : ℕ)
       go (Part count) true stops free = omega (arith, beyond, long, stops.2)
       go (Part count) false stops free = omega (arith, beyond, long, stops)
       go _ is_last stops free = (n, finds.within, free, omega (arith, beyond, long))
-
-  -- a part is longer than all bytes
-  cut_off : ¬ (MayBeLast wanted is_last)
-      → IsCutOff wanted buffer.held buffer.is_at_end × (n ≡ length buffer.held)
-  cut_off not_last = grind (arith, take_all)
 
   -- the byte at `i` is CR, the last, and not after a CR
   abbrev LastCr : ℕ → Type 0
@@ -138,7 +132,7 @@ module _ (wanted : Wanted) (start : ℕ) (buffer : WindowState) (n : ℕ)
   -- why it is not given
   pub end_rejects : (error : LineError) → IsEndOf wanted start bytes is_last (Err error)
       → Looks wanted start buffer (Err error)
-  end_rejects error beyond = grind (arith, cut_off, long, far, lone_break)
+  end_rejects error beyond = grind (arith, long, far, lone_break, take_all)
 
   line : (endings : Endings) → FreeUpTo endings buffer.held (n - 1) → IsWhole endings bytes
       → bytes ≢ [] → IsOneLine endings bytes
@@ -169,11 +163,6 @@ module _ (wanted : Wanted) (start : ℕ) (ended : Bool) (buffer : WindowState) w
   abbrev window : WindowState
   window = window_at ended buffer
 
-  -- a part does not fit
-  pub unfit_looks : (error : LineError) → IsUnfit wanted start buffer.size error
-      → Looks wanted start window (Err error)
-  unfit_looks error unfit = grind arith
-
   module _ (part : List ℕ) (usable : IsUsable wanted buffer part) where
     -- what was searched is among the bytes that may be in what is wanted
     pub looked_for : (searched : ℕ) → IsLookedFor wanted start buffer searched
@@ -189,7 +178,7 @@ module _ (wanted : Wanted) (start : ℕ) (ended : Bool) (buffer : WindowState) w
             within,
             subst (λ xs. IsSearched wanted xs searched) (sym usable.front)
                 (searched_front buffer.held (length part) searched within wanted
-                (grind (arith, searched_whole, searched_lacks, long))),
+                (grind (arith, searched_whole, long))),
           )
     ]
 
@@ -208,10 +197,6 @@ module _ (wanted : Wanted) (start : ℕ) (ended : Bool) (buffer : WindowState) w
         → (error : LineError) → IsRefusal start (length part) buffer.size error
         → Looks wanted start window (Err error)
     refusal_looks lacks less error refusal = grind (arith, rejects)
-
--- no read has failed, if the error is not that of one
-pub counts_none : (n : ℕ) (error : LineError) → error ≢ Read → failures_after n error ≡ n
-counts_none n error other = grind arith
 
 pub on_error : {T E : Type 0} (result : Result T E) {P : Type 0} → P → OnErr result P
 on_error result holds = grind arith

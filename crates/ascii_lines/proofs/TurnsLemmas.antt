@@ -8,20 +8,20 @@ use Rattle.std.proofs.lemmas.List.{take_all, length-drop}
 use Rattle.std.proofs.lemmas.Str.Ascii.{IsAscii-nil}
 use Rattle.ascii.proofs.EndingsLemmas.{FreeUpTo-more}
 use Rattle.ascii.specs.Endings.{any_text}
-use Rattle.ascii.specs.Lines.{Line, line_text}
+use Rattle.ascii.specs.Lines.{Line}
 use Rattle.ascii.specs.declared.iter.spans.Endings.{Endings}
 use Rattle.ascii_lines.specs.Exchanges.{bytes_of, said_in, step_bytes}
 use Rattle.ascii_lines.specs.LineBuffer.{WindowState}
 use Rattle.ascii_lines.specs.LineReader.{Finds, Looks, StopsBy, window_at}
-use Rattle.ascii_lines.specs.Replies.{IsInputOf, IsRequest, Reply, Says, Saying, Step}
-use Rattle.ascii_lines.specs.Replies.{at_end_before, rejected, skipped, took}
-use Rattle.ascii_lines.specs.Skipping.{IsFinal, TakesPart, WhyNotSkipped}
+use Rattle.ascii_lines.specs.Replies.{IsInputOf, IsRequest, Reply, Says, Saying, Step, rejected}
+use Rattle.ascii_lines.specs.Replies.{skipped, took}
+use Rattle.ascii_lines.specs.Skipping.{TakesPart, WhyNotSkipped}
 use Rattle.ascii_lines.specs.Turns.{Completes, Converses, Faults, GoesTo, IsOver, IsRequested}
 use Rattle.ascii_lines.specs.Turns.{IsSearchedFor, IsSound, IsTurn, IsTurnAt, Lacks, Place, Rests}
 use Rattle.ascii_lines.specs.Turns.{SkipTurn, SkipsIn, SkipsTo, Stops, TalkState, TurnOutcome}
 use Rattle.ascii_lines.specs.Turns.{Turns, Wants, awaited_by, is_ended, left_of, place_at, place_of}
 use Rattle.ascii_lines.specs.Turns.{place_with, supply_at, with_more}
-use Rattle.ascii_lines.specs.Wanted.{EndsAt, MayBeLast, MustRead, Rejects}
+use Rattle.ascii_lines.specs.Wanted.{MayBeLast, MustRead}
 use Rattle.ascii_lines.specs.declared.conversation.Awaited.{Awaited}
 use Rattle.ascii_lines.specs.declared.conversation.Awaited.TheVariants.{Input, LineEnd, Nothing}
 use Rattle.ascii_lines.specs.declared.conversation.Supply.{Supply}
@@ -51,10 +51,6 @@ supply_ended is_at_end = grind arith
 
 -- ---- the bytes of steps
 
-input_bytes : (what : Wanted) (bytes : List ℕ) (input : Line) → IsInputOf what bytes input
-    → line_text input ≡ bytes
-input_bytes what bytes input is = grind (arith, append-nil)
-
 module _ {H : Type 0} (answers : H → Line → List Reply → Next → H → Type 0)
     (refuses : H → LineError → List Reply → Next → H → Type 0) (endings : Endings) (size : ℕ)
     (now : Supply) where
@@ -66,7 +62,7 @@ module _ {H : Type 0} (answers : H → Line → List Reply → Next → H → Ty
 
   pub turn_bytes : (a b : Place H) (step : Step) → IsTurn answers refuses endings size now a step b
       → (a.text ≡ step_bytes step ++ b.text) × (b.start ≡ a.start + length (step_bytes step))
-  turn_bytes a b step turn = grind (arith, turn, input_bytes, append-nil)
+  turn_bytes a b step turn = grind (arith, turn, append-nil)
 
   -- steps take bytes, and go on after them
   pub Turns-bytes : (a b : Place H) (steps : List Step)
@@ -84,26 +80,11 @@ not_ended is = cc
 not_failed : supply.Open ≢ supply.Failed
 not_failed is = cc
 
--- an error that the bytes show is one at the end of the input too
-rejects_any : (what : Wanted) (start size : ℕ) (text : List ℕ) (is_at_end : Bool)
-    (error : LineError) → Rejects what start size text false error
-    → Rejects what start size text is_at_end error
-rejects_any what start size text is_at_end error why = grind arith
-
-no_end_before : (others : List ℕ) → at_end_before others false ≡ false
-no_end_before others = grind arith
-
 faults_more : (now : Supply) (what : Wanted) (start size : ℕ) (text more : List ℕ)
     (error : LineError) → Faults supply.Open what start size text error
     → (now ≡ supply.Ended → text ++ more ≡ [] → error ≡ fault.Incomplete 0)
     → Faults now what start size (text ++ more) error
-faults_more now what start size text more error is none =
-    grind (arith, append_assoc, rejects_any, no_end_before, not_failed)
-
--- no bytes show an error in place of a line, after which a conversation goes on
-nothing_shown : (endings : Endings) (start size : ℕ) (is_at_end : Bool) (error : LineError)
-    → Rejects (wanted.Line endings) start size [] is_at_end error → IsFinal error
-nothing_shown endings start size is_at_end error why = grind arith
+faults_more now what start size text more error is none = grind (arith, append_assoc, not_failed)
 
 why_more : (endings : Endings) (most start : ℕ) (bytes held more : List ℕ) (error : LineError)
     → error ≢ fault.Read → WhyNotSkipped endings most start bytes held error
@@ -165,7 +146,7 @@ module _ {H : Type 0} (answers : H → Line → List Reply → Next → H → Ty
             ap length is,
             length-append seen others,
           )) in
-          grind (arith, nothing_shown)
+          grind arith
 
       stops : (asked : Next) (why : Stop) → Stops supply.Open asked a.text why
           → Stops now asked (a.text ++ more) why
@@ -177,9 +158,7 @@ module _ {H : Type 0} (answers : H → Line → List Reply → Next → H → Ty
           (with_more b more)
       go (Input asked) (took input said) t = grind (arith, not_ended, append_assoc)
       go (Input asked) (rejected error said) t =
-          let faults = faults_more now t.1 a.start size a.text more error t.6
-          (shown t.1 asked t.0 error t.4 t.2 t.6) in
-          (t.0, t.1, t.2, t.3, t.4, t.5, faults, ap (λ xs. xs ++ more) t.7, t.8)
+          grind (arith, faults_more, shown t.1 asked t.0 error t.4 t.2 t.6)
       go (Input asked) (skipped bytes) t = grind (arith, stops)
       go (LineEnd then) (skipped bytes) t = (
         t.0,
@@ -211,13 +190,6 @@ module _ {H : Type 0} (answers : H → Line → List Reply → Next → H → Ty
 sound_by : (now : Supply) (then : Next) (text : List ℕ) → IsRequest then
     → IsSound now (awaited_by then) text
 sound_by now then text request = grind arith
-
-sound_request : (now : Supply) (awaited : Awaited) (text : List ℕ) → IsSound now awaited text
-    → IsRequested awaited
-sound_request now awaited text sound = grind arith
-
-left_by : (then : Next) (text : List ℕ) → left_of (awaited_by then) text ≤ 2 * length text + 2
-left_by then text = grind arith
 
 -- a conversation is over for one reason
 pub over_by : {awaited : Awaited} (a b : Stop) → awaited ≡ Nothing a → awaited ≡ Nothing b → a ≡ b
@@ -296,7 +268,7 @@ module _ {H K : Type 0} (answers : H → Line → List Reply → Next → H → 
         let t : TurnOutcome answers refuses endings size now mid said true new after =
         rw (same, sized) at turn in
         let more = steps-more new after t.0 t.1 t.2 in
-        grind (arith, sound_request)
+        grind arith
 
 -- a conversation is fed with some bytes, and then with more: the steps are those of both together
 pub feed_joins : {H K : Type 0} (answers : H → Line → List Reply → Next → H → Type 0)
@@ -371,11 +343,6 @@ module _ {H K : Type 0} (answers : H → Line → List Reply → Next → H → 
 
 -- ---- one step
 
--- what is returned has a byte
-pub ends_some : (endings : Endings) (asked : Next) (what : Wanted) (text : List ℕ) (n : ℕ)
-    → Wants endings asked what → IsRequested (Input asked) → EndsAt what text n → 0 < n
-ends_some endings asked what text n wants some ends = grind arith
-
 module _ {H K : Type 0} (answers : H → Line → List Reply → Next → H → Type 0)
     (refuses : H → LineError → List Reply → Next → H → Type 0) (endings : Endings)
     (buffer : WindowState) (ended : Bool) (handler last : H) (start : ℕ) (out said : Saying K)
@@ -407,14 +374,13 @@ module _ {H K : Type 0} (answers : H → Line → List Reply → Next → H → 
           (then, what, take n text, refl, request, wants, is, stops.1, tells, parts, place),
           rw (append-nil gave) says,
           sound_by now then (drop n text) request,
-          grind (arith, left_by, length-drop),
+          grind (arith, length-drop),
         )
       where
         go : (is_last : Bool) → StopsBy what (window_at ended buffer) found.count is_last
             → MayBeLast what is_last → (0 < found.count)
             × Completes now what (take found.count text) (drop found.count text)
-        go is_last ends last =
-            grind (arith, ends_some, length-take-le, ends_front, some_length, drop_all)
+        go is_last ends last = grind (arith, length-take-le, ends_front, some_length, drop_all)
 
     pub turn_faults : (asked : Next) (what : Wanted) (error : LineError) (gave : List Reply)
         (then : Next) (after : Awaited) → (ended ≡ true → text ≢ []) → Wants endings asked what
@@ -423,14 +389,8 @@ module _ {H K : Type 0} (answers : H → Line → List Reply → Next → H → 
         → TurnOutcome answers refuses endings buffer.size now (here (Input asked)) out true
         (place_at after last start text) said
     turn_faults asked what error gave then after some wants looks says tells request goes =
-        let faults : Faults now what start buffer.size text error = (
-          text,
-          [],
-          sym (append-nil text),
-          rw (supply_ended ended) looks.0,
-          λ is. absurd (looks.1 is),
-          λ is none. absurd (some (sym (supply_ended ended) ∙ ap is_ended is) none),
-        ) in
+        let faults : Faults now what start buffer.size text error =
+        grind (arith, append-nil text, supply_ended ended) in
         let sound : IsSound now after text × (left_of after text < 2 * length text + 2) =
         grind arith in (
           rejected error gave,
@@ -484,7 +444,7 @@ module _ {H K : Type 0} (answers : H → Line → List Reply → Next → H → 
     turn_skips true then after place left request t =
         let low : length text ≡ length t.0 + length left = ap length t.1 ∙ length-append t.0 left in
         let sound : IsSound now after left × (left_of after left < 2 * length text + 1) =
-        grind (arith, sound_by, left_by) in
+        grind (arith, sound_by) in
         (skipped t.0, (refl, t.1, t.2, inl t.4), Says-nil out, sound.0, sound.1)
     turn_skips false then after place left request t = grind arith
 
@@ -529,11 +489,4 @@ pub skip_taken : (now : Supply) (endings : Endings) (then : Next) (start : ℕ) 
     → SkipsIn now endings then start text (Some (record { 0 = n; 1 = after }))
     → left ≡ drop n text → SkipTurn now endings then start text true after (start + n) left
 skip_taken now endings then start text left n after skips is =
-    let long = length-take-le n text skips.0 in
-    rw is (
-      take n text,
-      sym (take-append-drop n text),
-      ap (λ k. start + k) (sym long),
-      λ on. omega (arith, skips.2 on, long),
-      skips.3,
-    )
+    grind (arith, length-take-le, take-append-drop)

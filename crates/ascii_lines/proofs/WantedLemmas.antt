@@ -55,10 +55,6 @@ module _ (held : List ℕ) (m n : ℕ) (low : n ≤ m) where
   pub ends_whole : (wanted : Wanted) → EndsAt wanted (take m held) n → EndsAt wanted held n
   ends_whole wanted ends = grind (arith, IsFirstStop-same, at_front)
 
-pub searched_lacks : (wanted : Wanted) (text : List ℕ) (n : ℕ) → LacksUpTo wanted text n
-    → IsSearched wanted text n
-searched_lacks wanted text n lacks = grind arith
-
 pub searched_none : (wanted : Wanted) (text : List ℕ) → IsSearched wanted text 0
 searched_none wanted text = grind arith
 

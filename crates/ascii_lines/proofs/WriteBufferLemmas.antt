@@ -1,13 +1,11 @@
 -- Bytes that were written through a buffer, one piece after another.
-use Rattle.std.proofs.Common.{◌≡◌, ℕ, List, [], ◌++◌, append_assoc, append-nil, OnErr, Result, Bool}
-use Rattle.std.proofs.Common.{true, false, ◌-◌, ◌^◌, ◌<◌, arith}
+use Rattle.std.proofs.Common.{◌≡◌, ℕ, List, [], ◌++◌, append_assoc, append-nil, OnErr, Result, true}
+use Rattle.std.proofs.Common.{false, ◌-◌, ◌^◌, ◌<◌, arith}
 use Rattle.std.proofs.KnownBytes.{Appends-trans}
-use Rattle.ascii_devices.specs.Buffered.{AppendsBy, AppendsBytes, FinishOutcome, OutputState}
-use Rattle.ascii_devices.specs.Buffered.{SendsFront}
+use Rattle.ascii_devices.specs.Buffered.{AppendsBytes, FinishOutcome, OutputState}
 use Rattle.ascii_devices.specs.declared.DeviceFault.{DeviceFault}
 use Rattle.ascii_devices.proofs.ListLemmas.{append_two}
 use Rattle.ascii_lines.specs.WriteBuffer.{Passes, PassesPrefix, PutsBytes}
-use Rattle.ascii_lines.specs.Failures.{one_more}
 use Rattle.ascii_lines.proofs.HistoryLemmas.{TellsSent-trans, TellsSent-write}
 
 -- one piece and then another
@@ -40,28 +38,15 @@ PassesPrefix-more {a} {b} first second one = record {
 
 -- ---- through the buffer of a sink
 
--- the sink took a prefix
-front_of : (a b : OutputState) (bytes : List ℕ) → SendsFront a b (a.buffer.bytes ++ bytes)
-    → PassesPrefix a b bytes
-front_of a b bytes is = grind (arith, TellsSent-write)
-
-whole_by : (q : Bool) (a b : OutputState) (bytes : List ℕ) → AppendsBy false q a b bytes
-    → q ≡ false → Passes a b bytes × (b.failures ≡ a.failures)
-whole_by q a b bytes appends none = grind (arith, TellsSent-write)
-
-broken_by : (q : Bool) (a b : OutputState) (bytes : List ℕ) → AppendsBy false q a b bytes
-    → a.failures < 2 ^ 64 - 1 → q ≡ true
-    → PassesPrefix a b bytes × (b.failures ≡ one_more a.failures)
-broken_by q a b bytes appends low some = grind (arith, front_of)
-
 -- bytes were appended to a buffer through which no write had failed
 pub puts : {a b : OutputState} (bytes : List ℕ) → a.buffer.is_broken ≡ false
     → a.failures < 2 ^ 64 - 1 → AppendsBytes a b bytes → PutsBytes a b bytes
-puts {a} {b} bytes ready low appends = grind (arith, whole_by, broken_by)
+puts {a} {b} bytes ready low appends = grind (arith, TellsSent-write)
 
 -- the bytes of a buffer were to be written, and a write or the flush failed
 pub finish_fails : (a b : OutputState) (result : Result (Unit {0}) DeviceFault)
     → a.buffer.is_broken ≡ false → a.failures < 2 ^ 64 - 1
     → FinishOutcome a.buffer.is_broken a b result → OnErr result (b.buffer.is_broken ≡ true)
     → b.buffer.size ≡ a.buffer.size → b.aside ≡ a.aside → OnErr result (PutsBytes a b [])
-finish_fails a b result ready low outcome broken size aside = grind (arith, front_of, append-nil)
+finish_fails a b result ready low outcome broken size aside =
+    grind (arith, append-nil, TellsSent-write)

@@ -1,10 +1,9 @@
 use Rattle.std.proofs.Common.{arith}
 use Rattle.ascii_lines.proofs.TakesLemmas.{find_ends, from_err, looked_for, refusal_looks}
-use Rattle.ascii_lines.proofs.TakesLemmas.{unfit_looks}
 use Rattle.ascii_lines.proofs.wanted.look.Goals as goal
 
 pub returns-in_err-may_fit : goal.returns-in_err-may_fit
-returns-in_err-may_fit g c = grind (arith, from_err, unfit_looks)
+returns-in_err-may_fit g c = grind (arith, from_err)
 
 pub find-requires-clause-searched : goal.find-requires-clause-searched
 find-requires-clause-searched g c = grind (arith, looked_for)

@@ -1,14 +1,12 @@
-use Rattle.std.proofs.Common.{◌≡◌, ℕ, Bool, IfErr, arith, false, length-append, None, Ok, Option}
-use Rattle.std.proofs.Common.{take}
+use Rattle.std.proofs.Common.{◌≡◌, ℕ, Bool, IfErr, arith, length-append, Ok, Option, take}
 use Rattle.std.proofs.Math.Seq.{take-append_seam}
 use Rattle.ascii_devices.specs.States.{source_state}
 use Rattle.ascii_lines.specs.LineReader.{Looks, window_at}
-use Rattle.ascii_lines.specs.Wanted.{MustRead}
 use Rattle.ascii_lines.specs.LineBuffer.{WindowState}
 use Rattle.ascii_lines.specs.declared.wanted.Found.{Found}
 use Rattle.ascii_lines.specs.declared.wanted.Wanted.{Wanted}
 use Rattle.ascii_lines.proofs.GathersLemmas.{Gathers-failed, Gathers-nil, Gathers-read}
-use Rattle.ascii_lines.proofs.TakesLemmas.{counts_none, from_err, takes_off}
+use Rattle.ascii_lines.proofs.TakesLemmas.{from_err, takes_off}
 use Rattle.ascii_lines.proofs.wanted.take_wanted.Goals as goal
 
 pub fills-init : goal.fills-init
@@ -18,7 +16,7 @@ pub returns-in_err-found-clause-err : goal.returns-in_err-found-clause-err
 returns-in_err-found-clause-err g c =
     let error = c.in_err-found.field-0.0 in
     let looks = c.in_err-found.ensures in
-    grind (arith, from_err, IfErr, counts_none)
+    grind (arith, from_err, IfErr)
 
 -- what a look has found
 looks : (wanted : Wanted) (start : ℕ) (buffer : WindowState) (ended : Bool)
@@ -36,15 +34,8 @@ returns-in-Some-clause-ok g c =
     c.fills.invariant.0 c.fills.invariant.2 c.fills.invariant.1 c.take.ensures.given
     c.take.ensures.held c.take.ensures.at_end
 
--- the source has to be read
-must : (wanted : Wanted) (start size : ℕ) (buffer : WindowState) (ended : Bool)
-    (found : Option Found) → ended ≡ buffer.is_at_end → found ≡ None → buffer.size ≡ size
-    → Looks wanted start (window_at ended buffer) (Ok found)
-    → (buffer.is_at_end ≡ false) × MustRead wanted start size buffer.held
-must wanted start size buffer ended found is none same look = grind (arith, looks)
-
 pub returns-in_default-fill-clause-err : goal.returns-in_default-fill-clause-err
-returns-in_default-fill-clause-err g c = grind (arith, must, Gathers-failed)
+returns-in_default-fill-clause-err g c = grind (arith, Gathers-failed, looks)
 
 pub fills-preserved : goal.fills-preserved
-fills-preserved g c = grind (arith, must, take-append_seam, Gathers-read, length-append)
+fills-preserved g c = grind (arith, take-append_seam, Gathers-read, length-append, looks)
