@@ -167,10 +167,7 @@ module _ (Is : ℕ → Type 0) (side : Bool) (text : List ℕ) (at mask h : ℕ)
 
   -- the marks of what comes before the last marked code
   pub cut_last : ShowsLast Is side (take (first + h + 1 - 1) text) h (bit_and mask (2 ^ h - 1))
-  cut_last =
-      let same : first + h ≡ first + h + 1 - 1 = omega arith in
-      subst (λ n. ShowsLast Is side (take n text) h (bit_and mask (2 ^ h - 1))) same
-      (kept_before h (omega (arith, inside)))
+  cut_last = grind (arith, bit_and mask (2 ^ h - 1), kept_before h (omega (arith, inside)), inside)
 
   -- the run starts at bit n, or goes on before it
   module _ (n : ℕ) (stop : IsHighest (run_starts mask) n) where

@@ -240,9 +240,7 @@ module _ (Is : ℕ → Type 0) (text : List ℕ) (n count first second : ℕ) (l
   outside_of_two = record {
     room = omega (arith, room);
     set = λ k is. elim (cases_eq (bit_at here k) 1) [
-      | inl one ↦
-          let up = shifted_from first (64 - count) k one in
-          grind (arith, moved)
+      | inl one ↦ grind (arith, shifted_from first (64 - count) k one, moved)
       | inr other ↦
           let one : bit_at there k ≡ 1 = grind (arith, bit_at_or, bit_at-lt) in
           let up = shifted_from second (64 - n) k one in
@@ -272,10 +270,7 @@ module _ (Is : ℕ → Type 0) (text : List ℕ) (at m : ℕ) (few : at < 64)
     room = shows.room;
     set = λ k is. elim (cases_eq (bit_at m k) 1) [
       | inl one ↦ grind (arith, turned)
-      | inr none ↦
-          let up : bit_at all k ≡ 1 = grind (arith, bit_at_xor, bit_at-lt) in
-          let old = shifted_from (2 ^ 64 - 1) at k up in
-          (old.0, old.1, shows.clear k (omega (arith, none, bit_at-lt m k)) old.0 old.1)
+      | inr none ↦ grind (arith, bit_at_xor, bit_at-lt, bit_at-lt m k, shifted_from (2 ^ 64 - 1))
     ];
     clear = grind (arith, turned, bit_at-lt);
   }

@@ -28,10 +28,7 @@ use Rattle.ascii_search.specs.Masks.{MarksCandidates, OccursBy, itself}
 -- the bits of a mask that is shifted up in a word
 module _ (m s k : ℕ) where
   in_word : k < 64 → bit_at (m * 2 ^ s % 2 ^ 64) k ≡ bit_at (m * 2 ^ s + 0) k
-  in_word few =
-      let parts : m * 2 ^ s / 2 ^ 64 * 2 ^ 64 + m * 2 ^ s % 2 ^ 64 ≡ m * 2 ^ s + 0 = omega arith in
-      sym (bit_at_cat_low (m * 2 ^ s / 2 ^ 64) 64 (m * 2 ^ s % 2 ^ 64) k few)
-      ∙ ap (λ x. bit_at x k) parts
+  in_word few = grind (arith, bit_at_cat_low (m * 2 ^ s / 2 ^ 64) 64 (m * 2 ^ s % 2 ^ 64) k few)
 
   pub shifted_here : k < 64 → s ≤ k → bit_at (m * 2 ^ s % 2 ^ 64) k ≡ bit_at m (k - s)
   shifted_here few high = in_word few ∙ bit_at_cat_high m s 0 k (pow_pos s) high
@@ -48,10 +45,7 @@ shifted_down m s k = ap (λ x. x % 2) (shr-shr m s k)
 
 -- a mask has no bit where it has none when it is shifted down
 pub none_below : (m s n : ℕ) → Nowhere (HasBit (m / 2 ^ s)) 0 n → Nowhere (HasBit m) s (s + n)
-none_below m s n none k from to is =
-    let same : s + (k - s) ≡ k = omega arith in
-    none (k - s) (omega arith) (omega arith)
-    (shifted_down m s (k - s) ∙ ap (bit_at m) same ∙ is)
+none_below m s n none k from to is = grind (arith, shifted_down m s (k - s))
 
 -- a mask that is 0 has no bit
 pub no_bit : (m i j : ℕ) → m ≡ 0 → Nowhere (HasBit m) i j
@@ -87,10 +81,7 @@ module _ (image : ℕ → ℕ) (hay needle : List ℕ) (n last first second : �
     pub joined : MarksCandidates image hay needle 0 (last + n)
         (bit_or first (second * 2 ^ last % 2 ^ 64))
     joined = record {
-      each = λ k l is. elim (cases_lt k n) [
-        | inl short ↦ or_left first up k (low.each k short is)
-        | inr g ↦ grind (arith, or_right, shifted_here, here)
-      ];
+      each = grind (arith, cases_lt, or_left, or_right, shifted_here, here);
       set = λ k is. elim (cases_eq (bit_at first k) 1) [
         | inl one ↦ let h = low.set k one in let short : k < n = h.0 in (omega arith, h.1)
         | inr other ↦
@@ -138,9 +129,6 @@ top_lane b = grind arith
 
 set_lane : (b : Bool) → ◌≡◌ {A = ℕ} (cond b 1 0) 1 → b ≡ true
 set_lane b is = grind arith
-
-clear_lane : (b : Bool) → ◌≡◌ {A = ℕ} (cond (not b) 1 0) 0 → b ≡ true
-clear_lane b clear = grind arith
 
 -- `lower` and `upper` are the bytes that count as byte `at` of the needle
 abbrev pub AreCases : (ℕ → ℕ) → List ℕ → ℕ → ℕ → ℕ → Type 0
@@ -277,10 +265,7 @@ module _ (hay needle : List ℕ) (k from n : ℕ) (few : n ≤ 64)
       let i = j - from in
       let l : i < n = omega arith in
       let here : from + i ≡ j = omega arith in
-      let place : k + from + i ≡ k + j = omega arith in
-      let clear = sym (ap (λ b. cond b 1 0) (byte_apart i l)) ∙ sym (bit_mask_l apart i)
-      ∙ ap (λ m. bit_at m i) none ∙ bit_at-zero i in
-      grind (arith, eqb-true, clear_lane, here)
+      grind (arith, byte_apart i l, bit_mask_l apart i, bit_at-zero i, eqb-true, here)
 
   part_apart : HasPart hay needle k from n → (i : ℕ) → get_or apart i false ≡ true → ⊥
   part_apart part i is = grind (arith, not, eq-eqb, byte_apart, past, get_or_past, length_apart)
@@ -324,14 +309,7 @@ module _ (image : ℕ → ℕ) (hay needle : List ℕ) where
       nowhere_in_both _ 0 start _ before (λ k from to occurs. let fits = occurs.fits in
       none k from (omega (arith, fits, all refl)) occurs)
   found_first start end (Some p) all before found =
-      let fits = found.1.fits in (
-        record {
-          low = omega arith;
-          high = omega (arith, fits);
-          before = nowhere_in_both _ 0 start p before found.0.before;
-        },
-        found.1,
-      )
+      let fits = found.1.fits in grind (arith, nowhere_in_both _ 0 start p before found.0.before)
 
 -- ---- when only the same bytes count as the same
 

@@ -1,6 +1,5 @@
 -- Where a needle is in a window of a text, and in the text.
-use Rattle.std.proofs.Common.{◌≡◌, ◌+◌, ◌-◌, ◌<◌, ◌≤◌, ℕ, List, get_or, length, arith, drop, map}
-use Rattle.std.proofs.Common.{subst}
+use Rattle.std.proofs.Common.{◌≡◌, ◌+◌, ◌-◌, ◌≤◌, ℕ, List, length, arith, drop, map, subst}
 use Rattle.std.specs.List.{slice_range}
 use Rattle.std.proofs.lemmas.List.{drop-map, get_or-drop, get_or-take, length-drop, length-take}
 use Rattle.std.proofs.lemmas.List.{take-map}
@@ -21,18 +20,15 @@ module _ (hay needle : List ℕ) (start end : ℕ) (order : start ≤ end) (insi
   size : length window ≡ end - start
   size = omega (arith, length-take (end - start) (drop start hay), length-drop start hay)
 
-  reads : (i : ℕ) → start + i < end → get_or window i 0 ≡ get_or hay (start + i) 0
-  reads i l = grind (arith, get_or-take, get_or-drop)
-
   there : (k j : ℕ) → start + k + j ≡ start + (k + j)
   there k j = omega arith
 
   in_text : (k : ℕ) → OccursAt window needle k → OccursAt hay needle (start + k)
-  in_text k occurs = let fits = occurs.fits in grind (arith, size, reads, there)
+  in_text k occurs = let fits = occurs.fits in grind (arith, size, there, get_or-take, get_or-drop)
 
   in_window : (k : ℕ) → start + k + length needle ≤ end → OccursAt hay needle (start + k)
       → OccursAt window needle k
-  in_window k ends occurs = grind (arith, size, reads, there)
+  in_window k ends occurs = grind (arith, size, there, get_or-take, get_or-drop)
 
   nowhere_up_to : (k : ℕ) → Nowhere (OccursAt window needle) 0 k
       → start + k + length needle ≤ end + 1 → Nowhere (OccursAt hay needle) from (start + k)
