@@ -73,20 +73,11 @@ signed text = grind (arith, cases_eq, eq-eqb, ne_eqb)
 sign_length : (minus : Bool) → length (sign_text minus) ≡ from_bool minus
 sign_length minus = grind arith
 
--- the codes up to one of `digits`
-take_inside : (before digits after : List ℕ) (i : ℕ) → i ≤ length digits
-    → take (length before + i) (before ++ (digits ++ after)) ≡ before ++ take i digits
-take_inside before digits after i order = grind (arith, take-append-add, take-append-le)
-
--- a code of `digits`
-code_inside : (before digits after : List ℕ) (i : ℕ) → i < length digits
-    → get_or (before ++ (digits ++ after)) (length before + i) 0 ≡ get_or digits i 0
-code_inside before digits after i inside = grind (arith, get_or-append-add, get_or-append)
-
 -- a code of `digits` at the position `p` of the text
 code_is : (text before digits after : List ℕ) (i p : ℕ) → before ++ (digits ++ after) ≡ text
     → p ≡ length before + i → i < length digits → get_or text p 0 ≡ get_or digits i 0
-code_is text before digits after i p joined at inside = grind (arith, code_inside)
+code_is text before digits after i p joined at inside =
+    grind (arith, get_or-append-add, get_or-append)
 
 -- what comes before it
 comes_before : (text before digits after whole : List ℕ) (fraction : Option (List ℕ)) (i p : ℕ)
@@ -95,7 +86,7 @@ comes_before : (text before digits after whole : List ℕ) (fraction : Option (L
     → digits_value 10 (whole ++ point_digits fraction) < 2 ^ 64
     → ComesBefore whole fraction text p
 comes_before text before digits after whole fraction i p joined at inside start fits =
-    grind (arith, take_inside, length-append)
+    grind (arith, length-append, take-append-add, take-append-le)
 
 -- ---- faults
 
@@ -243,19 +234,13 @@ pub writes_whole : (text whole : List ℕ) (n : ℕ)
       digits = n;
       places = 0;
     })
-writes_whole text whole n joined some digits value fits = record {
-  whole = whole;
-  fraction = None;
-  kept = [];
-  parts = subst (StartsDecimal (starts_with_minus text) whole None) joined
-      (whole_start (starts_with_minus text) whole digits);
-  some = some;
-  after = tt;
-  trimmed = record { cut = []; joined = refl; within = All-nil IsZeroCode; bounded = tt };
-  digits = value ∙ ap (digits_value 10) (sym (append-nil whole));
-  fits = fits;
-  places = refl;
-}
+writes_whole text whole n joined some digits value fits =
+    grind (
+      arith,
+      whole_start (starts_with_minus text) whole digits,
+      All-nil IsZeroCode,
+      append-nil whole,
+    )
 
 -- a text with a point
 pub writes_fraction : (text whole fraction kept : List ℕ) (n : ℕ)
@@ -328,14 +313,7 @@ one_trimmed digits kept other trimmed trims =
       not_shorter digits kept other trimmed trims,
       not_shorter digits other kept trims trimmed,
     ) in
-    sym (take-append_seam kept trimmed.cut)
-    ∙ ap (take (length kept)) (trimmed.joined ∙ sym trims.joined)
-    ∙ ap (λ n. take n (other ++ trims.cut)) same ∙ take-append_seam other trims.cut
-
--- numbers with the same parts are the same
-same_decimal : (d e : Decimal) → d.negative ≡ e.negative → d.digits ≡ e.digits
-    → d.places ≡ e.places → d ≡ e
-same_decimal d e minus digits places = grind arith
+    grind (arith, take-append_seam other trims.cut, take-append_seam kept trimmed.cut)
 
 -- a text writes one decimal number at most
 pub one_decimal : (text : List ℕ) (d e : Decimal) → WritesDecimal text d → WritesDecimal text e
@@ -353,7 +331,7 @@ one_decimal text d e one other =
     ∙ digits_after other.fraction in
     let kept = one_trimmed (point_digits one.fraction) one.kept other.kept one.trimmed
     (subst (λ l. TrimsEnd IsZeroCode l other.kept) (sym after) other.trimmed) in
-    grind (arith, ap₂, same_decimal)
+    grind (arith, ap₂)
 
 -- ---- a text that writes a number is not at fault
 
@@ -495,9 +473,7 @@ reads_decimal_number text d (Err e) says one = absurd (no_decimal_fault text d e
 -- ten to the number of 20 places or more is more than a `u64` holds
 pub many_places : (k : ℕ) → 2 ^ 64 ≤ 10 ^ (k + 20)
 many_places zero = lit≤ tt
-many_places (suc k) =
-    let next : suc k + 20 ≡ suc (k + 20) = omega arith in
-    omega (arith, many_places k, ap (λ n. 10 ^ n) next, pow-suc 10 (k + 20))
+many_places (suc k) = grind (arith, many_places k, pow-suc 10 (k + 20))
 
 -- what `{:0places$}` writes of a number
 filled : (places n : ℕ) → places ≢ 0

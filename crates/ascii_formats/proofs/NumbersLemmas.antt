@@ -1,6 +1,6 @@
 -- Numbers that grow digit by digit.
 use Rattle.std.proofs.Common.{◌≡◌, ◌≢◌, ℕ, zero, suc, ◌+◌, ◌-◌, ◌*◌, ◌^◌, ◌<◌, ◌≤◌, List, [], ◌∷◌}
-use Rattle.std.proofs.Common.{drop, get_or, length, take, Result, Ok, arith, ap, sym, ◌∙◌, lit≤}
+use Rattle.std.proofs.Common.{drop, get_or, length, take, Result, Ok, arith, sym, lit≤}
 use Rattle.std.specs.Prelude.{IfSome, MatchResult, decimal, slice_get, slice_index, FitsSigned, ℤ}
 use Rattle.std.specs.Fmt.{signed_decimal}
 use Rattle.std.specs.Int.{Width, from_bool}
@@ -22,9 +22,7 @@ use Rattle.ascii_formats.specs.declared.numbers.NumberError.TheVariants.{Empty, 
 -- the codes from `start` up to `end` are the first of those from `start` on
 between : (text : List ℕ) (start end : ℕ) → start ≤ end
     → drop start (take end text) ≡ take (end - start) (drop start text)
-between text start end order =
-    let parts : end ≡ start + (end - start) = omega (arith, order) in
-    ap (λ n. drop start (take n text)) parts ∙ drop-take start (end - start) text
+between text start end order = grind (arith, drop-take start (end - start) text)
 
 -- those up to the next position are one more of them
 one_more : (text : List ℕ) (start i : ℕ) → start ≤ i
@@ -80,19 +78,8 @@ number_at_start range radix text n end read some =
     record {
       part = part;
       joined = take-append-drop end text;
-      number = record {
-        some = λ none. absurd (omega (
-          arith,
-          some,
-          read.inside,
-          ap length none,
-          ap from_bool same,
-          length-drop (from_bool (has_sign range part)) part,
-          length-take end text,
-        ));
-        number = grind arith;
-        value = grind arith;
-      };
+      number =
+          grind (arith, length-drop (from_bool (has_sign range part)) part, length-take end text);
       longest = next_code _ text end read.longest;
     }
 
@@ -132,21 +119,12 @@ pub no_fault : (most : ℕ) (text : List ℕ) (e : NumberError) → IsNumeral 10
     → digits_value 10 text ≤ most → ¬ (IsNumberFault most text e)
 no_fault most text e numeral fits = grind (arith, no_fault_in, lit≤)
 
--- and gives that number
-pub reads_number : (most : ℕ) (text : List ℕ) (result : Result ℕ NumberError)
-    → MatchResult result (WritesNumber most text) (IsNumberFault most text)
-    → IsNumeral 10 text → digits_value 10 text ≤ most → result ≡ Ok (digits_value 10 text)
-reads_number most text result says numeral fits = grind (arith, reads_number_in, lit≤)
-
 -- the digits that `decimal` writes of a number are read as it
 pub reads_decimal : (most n : ℕ) (result : Result ℕ NumberError)
     → MatchResult result (WritesNumber most (decimal n)) (IsNumberFault most (decimal n))
     → n < 10 ^ 64 → n ≤ most → result ≡ Ok n
-reads_decimal most n result says wide fits = grind (arith, decimal_is_IsNumeral_wide, reads_number)
-
--- the size of a number of a signed type is far below the numbers of which `decimal` is known
-size_below : (w : Width) → 2 ^ hbits w < 10 ^ 64
-size_below w = grind (arith, lit≤)
+reads_decimal most n result says wide fits =
+    grind (arith, decimal_is_IsNumeral_wide, reads_number_in, lit≤)
 
 -- the sign and the digits that `signed_decimal` writes of a number are read as it
 pub reads_signed_decimal : (w : Width) (z : ℤ) (result : Result ℤ NumberError)
@@ -154,4 +132,4 @@ pub reads_signed_decimal : (w : Width) (z : ℤ) (result : Result ℤ NumberErro
     MatchResult result (WritesNumberIn range 10 text) (IsFaultIn range 10 text)
     → FitsSigned w z → result ≡ Ok z
 reads_signed_decimal w z result says fits =
-    grind (arith, decimal_is_IsNumeral_wide, size_below, ne_eqb, digit_at, reads_number_in, lit≤)
+    grind (arith, decimal_is_IsNumeral_wide, ne_eqb, digit_at, reads_number_in, lit≤)

@@ -116,9 +116,7 @@ digit_written room written rest n size inside so_far more =
 -- a quotient has one digit less
 pub fewer_digits : (rest written : ℕ) → written < 16 → rest < 16 ^ (16 - written)
     → rest / 16 < 16 ^ (16 - (written + 1))
-fewer_digits rest written inside below =
-    let size : 16 - written ≡ suc (16 - (written + 1)) = omega (arith, inside) in
-    omega (arith, below, ap (λ k. 16 ^ k) size, pow-suc 16 (16 - (written + 1)))
+fewer_digits rest written inside below = grind (arith, pow-suc 16 (16 - (written + 1)))
 
 -- a number is 0, or more
 zero_or_more : (n : ℕ) → (n ≡ 0) ⊎ (0 < n)

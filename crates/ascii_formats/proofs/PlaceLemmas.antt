@@ -1,7 +1,7 @@
 -- The place that bytes lead to, by the number of LF and the last one.
-use Rattle.std.proofs.Common.{◌++◌, ◌≡◌, ◌+◌, ◌-◌, ◌≤◌, ◌==◌, ℕ, suc, Bool, false, List, [], ◌∷◌}
-use Rattle.std.proofs.Common.{length, take, drop, arith, ap, sym, refl, ◌∙◌, take-append-drop}
-use Rattle.std.proofs.Common.{length-drop, Some, None, if◌then◌else◌}
+use Rattle.std.proofs.Common.{◌++◌, ◌≡◌, ◌+◌, ◌-◌, ◌≤◌, ◌==◌, ℕ, Bool, false, List, [], ◌∷◌, length}
+use Rattle.std.proofs.Common.{take, drop, arith, ap, sym, refl, ◌∙◌, take-append-drop, length-drop}
+use Rattle.std.proofs.Common.{Some, None, if◌then◌else◌}
 use Rattle.std.proofs.lemmas.List.Elements.{All-head, All-tail}
 use Rattle.memchr.specs.Find.{IsLastByte, is_byte}
 use Rattle.ascii.specs.Found.{HasNo}
@@ -15,14 +15,10 @@ pub place_after-append : (place : Place) (xs ys : List ℕ)
 place_after-append place [] ys = refl
 place_after-append place (x ∷ xs) ys = place_after-append (place_after_byte place x) xs ys
 
-line_of_byte : (p : Place) (x n : ℕ) (b : Bool) → (x == 10) ≡ b
-    → (place_after_byte p x).line + n ≡ p.line + (if x == 10 then suc n else n)
-line_of_byte p x n b is = grind arith
-
 -- the line goes up by one for each LF
 line_after : (p : Place) (xs : List ℕ) → (place_after p xs).line ≡ p.line + feeds xs
 line_after p [] = omega arith
-line_after p (x ∷ xs) = grind (arith, line_of_byte, line_after (place_after_byte p x) xs)
+line_after p (x ∷ xs) = grind (arith, line_after (place_after_byte p x) xs)
 
 -- the byte is not LF
 abbrev IsOther : ℕ → Type 0

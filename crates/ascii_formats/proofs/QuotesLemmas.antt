@@ -50,15 +50,7 @@ plain_out : (q e n : ℕ) (more rest : List ℕ) (pieces : List (List ℕ)) → 
 plain_out q e n more rest [] not_quote not_escape each joined ends = grind arith
 plain_out q e n more rest (piece ∷ pieces) not_quote not_escape each joined ends =
     elim (All-head (IsQuotedCode q e) piece pieces each) [
-      | inl h ↦
-          let same : h.0 ∷ (concat pieces ++ q ∷ rest) ≡ n ∷ more = rw h.1 at joined in (
-            concat pieces,
-            record {
-              joined = ap (λ l. q ∷ drop 1 l) same;
-              quotable = (pieces, All-tail (IsQuotedCode q e) piece pieces each, refl);
-              ends = ends;
-            },
-          )
+      | inl h ↦ grind (arith, All-tail (IsQuotedCode q e) piece pieces each)
       | inr h ↦ grind (arith, not_escape)
     ]
 
@@ -70,15 +62,7 @@ escape_out q e more rest [] doubled each joined ends = grind arith
 escape_out q e more rest (piece ∷ pieces) doubled each joined ends =
     elim (All-head (IsQuotedCode q e) piece pieces each) [
       | inl h ↦ grind arith
-      | inr h ↦
-          let same : e ∷ h.0 ∷ (concat pieces ++ q ∷ rest) ≡ e ∷ more = rw h.1 at joined in (
-            concat pieces,
-            record {
-              joined = ap (λ l. q ∷ drop 2 l) same;
-              quotable = (pieces, All-tail (IsQuotedCode q e) piece pieces each, refl);
-              ends = ends;
-            },
-          )
+      | inr h ↦ grind (arith, All-tail (IsQuotedCode q e) piece pieces each)
     ]
 
 -- pieces with their closing quote are the text
@@ -117,9 +101,7 @@ left_at : (text : List ℕ) (i n : ℕ) → slice_get text i ≡ Some n
     → drop i text ≡ n ∷ drop (i + 1) text
 left_at text i n is =
     let inside = slice_get_within text i n is in
-    let next : suc i ≡ i + 1 = omega arith in
-    drop-cons text i 0 inside
-    ∙ ap₂ (λ m k. m ∷ drop k text) (get_or_from_slice_get text i n 0 is) next
+    grind (arith, drop-cons text i 0 inside, ap₂, get_or_from_slice_get text i n 0 is)
 
 first_left : (text : List ℕ) (i : ℕ) → slice_get (drop i text) 0 ≡ slice_get text i
 first_left text zero = refl
@@ -159,17 +141,12 @@ scan_plain q e text i n is not_quote not before =
     (λ rest. rw (left_at text i n is) (past_plain q e n (drop (i + 1) text) rest not_quote
     (not_escape q e text i n is not_quote not)))
 
--- no list begins with `q` if its first code is another
-ends_with : (q : ℕ) (rest : List ℕ) → ¬ (slice_get rest 0 ≡ Some q)
-    → IfSome (slice_get rest 0) (λ next. next ≢ q)
-ends_with q rest not = grind arith
-
 pub scan_quote : (q e : ℕ) (text : List ℕ) (i : ℕ) → slice_get text i ≡ Some q
     → ¬ (IsEscapeAt q e text i) → ClosesAsFrom q e text i
     → ClosesBefore q e text (drop (i + 1) text)
 scan_quote q e text i is not before =
     let rest = drop (i + 1) text in
-    let ends : EndsAt q e rest = grind (arith, ends_with, first_left) in
+    let ends : EndsAt q e rest = grind (arith, first_left) in
     (before rest).1 (rw (left_at text i q is) (closed_here q e rest ends))
 
 pub scan_end : (q e : ℕ) (text : List ℕ) (i : ℕ) → length text ≤ i → ClosesAsFrom q e text i
@@ -231,16 +208,9 @@ quoted_once q e text a b x y first second =
     let rest : x ≡ y = closes_once q e body x y first.quotable.0 first.ends first.quotable.1
     (ap (λ l. l ++ q ∷ x) first.quotable.2 ∙ whole) closes in
     let same : a ++ q ∷ x ≡ b ++ q ∷ y = whole ∙ sym (ap (drop 1) second.joined) in
-    let size : length a ≡ length b = omega (
-      arith,
-      ap length same,
-      ap length rest,
-      length-append a (q ∷ x),
-      length-append b (q ∷ y),
-    ) in (
-      sym (take-append_seam a (q ∷ x)) ∙ ap₂ take size same ∙ take-append_seam b (q ∷ y),
-      rest,
-    )
+    let size : length a ≡ length b =
+    grind (arith, length-append a (q ∷ x), length-append b (q ∷ y)) in
+    grind (arith, take-append_seam a (q ∷ x), take-append_seam b (q ∷ y), ap₂ take size same)
 
 -- a text that is quoted is taken in that way
 pub quoted_taken : {A : Type 0} (inside_of rest_of : A → List ℕ) (q e : ℕ) (text a x : List ℕ)

@@ -4,7 +4,6 @@ use Rattle.std.proofs.Common.{◌≡◌, ℕ, ◌+◌, ◌<◌, ◌⊎◌, List,
 use Rattle.std.proofs.Common.{take-add, refl, sym, ap, ◌∙◌, append_assoc, append-nil, arith, inl}
 use Rattle.std.proofs.Common.{inr, ap₂, length-append, length-drop, take-append-drop}
 use Rattle.std.proofs.lemmas.Bool.Decides.{nat_tests}
-use Rattle.std.specs.Char.{digit_char, digit_value}
 use Rattle.std.specs.Char.Escape.{backslash, escape_ascii, hex_digit_at, short_escape}
 use Rattle.std.specs.List.{AllZip, concat, flat_map}
 use Rattle.std.specs.Prelude.{◌≤◌, Err, MatchResult, Ok, Result, slice_index}
@@ -45,10 +44,6 @@ unescapes_more text codes at size code (pieces, joined, stand) is =
 
 -- ---- a text is read in one way only
 
--- a piece that stands for a code is not empty
-piece_some : (piece : List ℕ) (code : ℕ) → StandsFor piece code → 0 < length piece
-piece_some piece code is = grind arith
-
 short_once : (m n : ℕ) → 0 < short_escape m → short_escape m ≡ short_escape n → m ≡ n
 short_once m n some same = grind (arith, nat_tests)
 
@@ -67,7 +62,7 @@ reads_on : (ps qs : List (List ℕ)) (ms ns tail : List ℕ) → AllZip StandsFo
 reads_on [] qs [] ns tail starts all joined = (ns, (qs, sym joined, all), refl)
 reads_on [] qs (m ∷ ms) ns tail starts all joined = absurd starts
 reads_on (p ∷ ps) qs [] ns tail starts all joined = absurd starts
-reads_on (p ∷ ps) [] (m ∷ ms) ns tail starts all joined = grind (arith, piece_some, length-append)
+reads_on (p ∷ ps) [] (m ∷ ms) ns tail starts all joined = grind (arith, length-append)
 reads_on (p ∷ ps) (q ∷ qs) (m ∷ ms) [] tail starts all joined = absurd all
 reads_on (p ∷ ps) (q ∷ qs) (m ∷ ms) (n ∷ ns) tail starts all joined =
     let same = first_same p q (concat ps ++ tail) (concat qs) m n starts.0 all.0
@@ -77,7 +72,7 @@ reads_on (p ∷ ps) (q ∷ qs) (m ∷ ms) (n ∷ ns) tail starts all joined =
 nothing_more : (more : List ℕ) → Unescapes [] more → more ≡ []
 nothing_more [] all = refl
 nothing_more (n ∷ more) ([], joined, all) = absurd all
-nothing_more (n ∷ more) (q ∷ qs, joined, all) = grind (arith, piece_some, length-append)
+nothing_more (n ∷ more) (q ∷ qs, joined, all) = grind (arith, length-append)
 
 -- a text is read in one way only
 pub unescapes_once : (text ms ns : List ℕ) → Unescapes text ms → Unescapes text ns → ms ≡ ns
@@ -88,9 +83,7 @@ unescapes_once text ms ns (ps, first, starts) (qs, second, all) =
 -- what is left of a text that is read is read
 left_read : (text ms ns : List ℕ) (p : ℕ) → Unescapes (take p text) ms → Unescapes text ns
     → (more : List ℕ) × Unescapes (drop p text) more × (ns ≡ ms ++ more)
-left_read text ms ns p (ps, first, starts) (qs, second, all) =
-    reads_on ps qs ms ns (drop p text) starts all
-    (ap (λ l. l ++ drop p text) first ∙ take-append-drop p text ∙ sym second)
+left_read text ms ns p is given = grind (arith, reads_on, take-append-drop p text)
 
 -- a text that is read has no piece that stands for no code
 has_piece : (rest more : List ℕ) → 0 < length rest → Unescapes rest more → ¬ (HasNoPiece rest)
@@ -124,26 +117,17 @@ no_fault text ns Memory ascii all fault = refl
 
 -- ---- what `escape_ascii` writes
 
-digit_back : (d : ℕ) → d < 16 → digit_value (digit_char d) ≡ d
-digit_back d low = grind (arith, nat_tests)
-
 hex_stands : (n : ℕ) → n < 128
     → IsHexEscapeOf (backslash ∷ 120 ∷ hex_digit_at 16 n ∷ hex_digit_at 1 n ∷ []) n
-hex_stands n low = grind (arith, digit_back)
+hex_stands n low = grind (arith, nat_tests)
 
 stands_by : (n : ℕ) → n < 128 → (0 < short_escape n) ⊎ (short_escape n ≤ 0)
     → (n < 32) ⊎ (32 ≤ n) → (n < 127) ⊎ (127 ≤ n) → StandsFor (escape_ascii n) n
 stands_by n ascii (inl some) low delete = inr (inl (grind (arith, nat_tests), some))
-stands_by n ascii (inr none) (inl low) delete =
-    let is : escape_ascii n ≡ backslash ∷ 120 ∷ hex_digit_at 16 n ∷ hex_digit_at 1 n ∷ [] =
-    grind (arith, nat_tests) in
-    inr (inr (rw is (hex_stands n ascii)))
+stands_by n ascii (inr none) (inl low) delete = grind (arith, nat_tests, hex_stands n ascii)
 stands_by n ascii (inr none) (inr high) (inl other) =
     inl (grind (arith, nat_tests), grind (arith, nat_tests))
-stands_by n ascii (inr none) (inr high) (inr delete) =
-    let is : escape_ascii n ≡ backslash ∷ 120 ∷ hex_digit_at 16 n ∷ hex_digit_at 1 n ∷ [] =
-    grind (arith, nat_tests) in
-    inr (inr (rw is (hex_stands n ascii)))
+stands_by n ascii (inr none) (inr high) (inr delete) = grind (arith, nat_tests, hex_stands n ascii)
 
 -- what `escape_ascii` writes stands for the text
 escaped_stands : (text : List ℕ) → IsAscii text → Unescapes (flat_map escape_ascii text) text
