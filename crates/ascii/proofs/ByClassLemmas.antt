@@ -3,7 +3,7 @@ use Rattle.std.proofs.Common.{◌≡◌, ◌≢◌, ℕ, ◌+◌, ◌-◌, ◌<�
 use Rattle.std.proofs.Common.{[], ◌∷◌, ◌++◌, length, take, drop, get_or, refl, sym, ap, subst, ◌∙◌}
 use Rattle.std.proofs.Common.{arith, append-nil, append_assoc}
 use Rattle.std.specs.Bool.{Decides}
-use Rattle.std.specs.List.{All, filter, onto_first, slice_get, slice_split}
+use Rattle.std.specs.List.{All, filter, slice_get, slice_split}
 use Rattle.std.specs.Option.{IfSome}
 use Rattle.std.proofs.lemmas.Bool.{cases_Bool, cases_lt, cond_both}
 use Rattle.std.proofs.lemmas.Bool.Decides.{not_from_Decides}
@@ -22,10 +22,6 @@ use Rattle.ascii.specs.Words.{IsFirstWord, IsWord, Words}
 use Rattle.ascii.proofs.PiecesLemmas.{slice_split-joint, slice_split-some}
 use Rattle.ascii.proofs.SpansLemmas.{length-with_starts, room, with_starts-append}
 
-room-onto_first : (x : ℕ) (ps : List (List ℕ)) → ps ≢ []
-    → room piece_size (onto_first x ps) ≡ room piece_size ps + 1
-room-onto_first x ps some = grind arith
-
 All-one : (test : ℕ → Bool) (c : ℕ) → test c ≡ true → All (λ d. test d ≡ true) (c ∷ [])
 All-one test c is = All-cons (λ d. test d ≡ true) c [] is (All-nil (λ d. test d ≡ true))
 
@@ -33,8 +29,7 @@ module _ (test : ℕ → Bool) where
   -- pieces take the room of the text and one separator
   room-split : (t : List ℕ) → room piece_size (slice_split test t) ≡ length t + 1
   room-split [] = refl
-  room-split (c ∷ t) =
-      grind (arith, cond_both, room, room-onto_first, slice_split-some, room-split t)
+  room-split (c ∷ t) = grind (arith, cond_both, room, slice_split-some, room-split t)
 
   -- the pieces around a separator
   pub pieces_joint : (start : ℕ) (a : List ℕ) (c : ℕ) (b : List ℕ) → test c ≡ true
@@ -206,9 +201,7 @@ module _ (Is : ℕ → Type 0) (test : ℕ → Bool) (decides : (n : ℕ) → De
         ≡ piece_spans_by test (record { start = start; item = take (k - 1) t })
         ++ record { start = start + k; item = drop k t } ∷ []
     last_piece_by more run =
-        let high = run.high in
         let long : length (take (k - 1) t) + 1 ≡ k = grind (arith, common_steps) in
-        let same : k - 1 + 1 ≡ k = omega arith in
         let front = take (k - 1) t in
         let whole : t ≡ front ++ get_or t (k - 1) 0 ∷ drop k t = grind (arith, around) in
         grind (arith, pieces_joint, is_yes, pieces_none, back_out)
@@ -275,8 +268,7 @@ module _ (Is : ℕ → Type 0) (test : ℕ → Bool) (decides : (n : ℕ) → De
     pub first_word_within : word_spans_by test (record { start = start; item = t })
         ≡ record { start = start + k; item = drop k (take e t) }
         ∷ word_spans_by test (record { start = start + e; item = drop e t })
-    first_word_within = let low = run.low in
-        let sum : start + k + (e - k) ≡ start + e = omega arith in
+    first_word_within = let sum : start + k + (e - k) ≡ start + e = omega arith in
         grind (arith, first_word_by, run_after, word_same, rest_same)
 
     pub first_is_within : IsWord Is (drop k (take e t))
@@ -305,12 +297,10 @@ module _ (Is : ℕ → Type 0) (test : ℕ → Bool) (decides : (n : ℕ) → De
         last_in u zero some run = words_one test start u some (back_out u zero run)
             ∙ ap (λ n. record { start = n; item = u } ∷ []) (omega arith)
         last_in u (suc n) some run =
-            let high = run.high in
             let inside : n < length u = omega arith in
             let size : length (take n u) + 1 ≡ suc n = grind (arith, common_steps) in
             let front : take (suc n) u ≡ take n u ++ get_or u n 0 ∷ [] = take-suc u n 0 inside in
             let word = drop (suc n) u in
-            let back : suc n - 1 ≡ n = omega arith in
             ap (λ xs. word_spans_by test (record { start = start; item = xs }))
             (sym (take-append-drop (suc n) u) ∙ ap (λ xs. xs ++ word) front)
             ∙ (words_last test start (take n u) word (get_or u n 0) some (back_out u (suc n) run)
@@ -374,17 +364,13 @@ module _ (Is : ℕ → Type 0) (test : ℕ → Bool) (decides : (n : ℕ) → De
         bounded = held.1.bounded;
       } in (held.0, found, held.2)
 
-  onto_first_piece : (c : ℕ) (text : List ℕ) (pieces : List (List ℕ)) → ¬ (Is c)
-      → HasFirstPiece text pieces → HasFirstPiece (c ∷ text) (onto_first c pieces)
-  onto_first_piece c text pieces out none = grind (arith, All-cons)
-
   has_first_piece : (text : List ℕ) → HasFirstPiece text (slice_split test text)
   has_first_piece [] = grind (arith, All-nil)
   has_first_piece (c ∷ text) =
       let first = has_first_piece text in
       cond_both (test c) _ _ (HasFirstPiece (c ∷ text))
       (grind (arith, All-nil, words_after_one, words_of_pieces))
-      (grind (arith, onto_first_piece, not_from_Decides))
+      (grind (arith, not_from_Decides, All-cons))
 
   -- the pieces that are not empty are the words of the text
   pub words_by_are_words : (text : List ℕ) → Words Is text (words_by test text)

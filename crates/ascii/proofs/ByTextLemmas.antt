@@ -58,17 +58,12 @@ module _ (first : ℕ) (others : List ℕ) where
   pieces_absent (c ∷ t) none = cond-false _ _ _ (not_here (c ∷ t) (none 0))
       ∙ ap (onto_first c) (pieces_absent t (λ j also. none (suc j) (sooner c t needle j also)))
 
-  -- there is at least one, and at most one more than the codes of the text
-  length-onto_first : (x : ℕ) (ps : List (List ℕ)) → 0 < length ps
-      → length (onto_first x ps) ≡ length ps
-  length-onto_first x ps some = grind arith
-
   pub pieces_many : (skip : ℕ) (t : List ℕ) → (0 < length (pieces_after first others skip t))
       × (length (pieces_after first others skip t) ≤ length t + 1)
   pieces_many skip [] = (omega arith, omega arith)
   pieces_many (suc skip) (c ∷ t) = grind (arith, pieces_many skip t)
   pieces_many zero (c ∷ t) =
-      grind (arith, cond_both, length-onto_first, pieces_many (length others) t, pieces_many zero t)
+      grind (arith, cond_both, pieces_many (length others) t, pieces_many zero t)
 
 pub piece_spans_at_fit : (start : ℕ) (needle t : List ℕ)
     → length (piece_spans_at needle (record { start = start; item = t })) ≤ length t + 1

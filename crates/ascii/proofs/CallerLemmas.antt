@@ -27,7 +27,7 @@ use Rattle.ascii.specs.Chunks.{ChunksOf, Run}
 use Rattle.ascii.specs.Extend.{Collects, Extends}
 use Rattle.ascii.specs.Lines.{Line, LinesOf, bodies, line_text}
 use Rattle.ascii.specs.Pieces.{Pieces, Remaining}
-use Rattle.ascii.specs.Spans.{LineSpansOf, PieceSpans, WithStart, items_of, with_starts}
+use Rattle.ascii.specs.Spans.{LineSpansOf, PieceSpans, WithStart, items_of}
 use Rattle.ascii.specs.Retain.{RetainsChars}
 use Rattle.ascii.specs.Steps.{DropsFirst, StepsText, YieldsFirstAnd, at_front}
 use Rattle.ascii.specs.TheCuts.{at_code}
@@ -38,7 +38,7 @@ use Rattle.ascii.proofs.ExtendLemmas.{all_from_extends, ok_from_extends, pieces_
 use Rattle.ascii.proofs.ExtendLemmas.{singles}
 use Rattle.ascii.proofs.PiecesLemmas.{HasNo-from_absent, Pieces-only, Pieces-pieces_of}
 use Rattle.ascii.proofs.PiecesLemmas.{pieces_of-free, pieces_of-split_at_last}
-use Rattle.ascii.proofs.SpansLemmas.{room, room-lines, room-pieces, with_starts-last}
+use Rattle.ascii.proofs.SpansLemmas.{room-lines, room-pieces, with_starts-last}
 use Rattle.ascii.proofs.StepsLemmas.{road_from_first_and}
 use Rattle.std.specs.Option.{IfSome}
 use Rattle.std.proofs.Math.Seq.{get_or-append_seam, take-append_seam}
@@ -109,13 +109,6 @@ pub last_of_lines : (text front : List ℕ) (last : Line) (lines : List Line)
     → LinesOf text (lines ++ last ∷ []) → LinesOf front lines → front ++ line_text last ≡ text
 last_of_lines text front last lines whole left = grind (arith, flat_map-append, append-nil)
 
--- the last of items that are laid end to end starts where the others end
-last_start : {A : Type 0} (size : A → ℕ) (start : ℕ) (spans : List (WithStart A))
-    (last : WithStart A)
-    → spans ++ last ∷ [] ≡ with_starts size start (items_of (spans ++ last ∷ []))
-    → last.start ≡ start + room size (items_of spans)
-last_start size start spans last whole = grind (arith, same_from_push, map_push, with_starts-last)
-
 -- the last piece starts after the text of the others and one separator, and joins it to the text
 pub last_of_piece_spans : (start on : ℕ) (text front : List ℕ) (last : WithStart (List ℕ))
     (spans : List (WithStart (List ℕ)))
@@ -123,7 +116,7 @@ pub last_of_piece_spans : (start on : ℕ) (text front : List ℕ) (last : WithS
     → (last.start ≡ start + length front + 1) × (front ++ on ∷ last.item ≡ text)
 last_of_piece_spans start on text front last spans whole left =
     let items = items_of spans in (
-      grind (arith, last_start, room-pieces),
+      grind (arith, room-pieces, same_from_push, map_push, with_starts-last),
       last_of_pieces on text front last.item items (rw map_push at whole.pieces) left.pieces,
     )
 
@@ -134,7 +127,7 @@ pub last_of_line_spans : (start : ℕ) (text front : List ℕ) (last : WithStart
     → (last.start ≡ start + length front) × (front ++ line_text last.item ≡ text)
 last_of_line_spans start text front last spans whole left =
     let items = items_of spans in (
-      grind (arith, last_start, room-lines),
+      grind (arith, room-lines, same_from_push, map_push, with_starts-last),
       last_of_lines text front last.item items (rw map_push at whole.lines) left.lines,
     )
 
@@ -207,7 +200,6 @@ pub span_first : (Is : ℕ → Type 0) (text front rest : List ℕ) → IsSpan I
     → rest ≢ [] → IsFirstAt Is (λ code. ¬ (Is code)) text (length front)
 span_first Is text front [] span some = absurd (some refl)
 span_first Is text front (c ∷ rest) span some =
-    let Other : ℕ → Type 0 = λ code. ¬ (Is code) in
     let inside : length front < length (front ++ c ∷ rest) = grind (arith, length-append) in
     let at = slice_get-get_or (front ++ c ∷ rest) (length front) c inside
     ∙ ap Some (get_or-append_seam front c rest c) in

@@ -13,22 +13,16 @@ use Rattle.ascii.specs.Chunks.{ChunksOf, HasOneListOfChunks, IsByteOf, IsFirstCh
 use Rattle.ascii.specs.Chunks.{IsRun, LoopsBackOverChunks, LoopsOverChunks, Run, YieldsFirstChunk}
 use Rattle.ascii.specs.Chunks.{YieldsLastChunk, chunk_in}
 use Rattle.ascii.specs.Spans.{WithStart}
-use Rattle.ascii.proofs.RunLemmas.{end_kept, last_code, last_of_all, one_span, same_span}
+use Rattle.ascii.proofs.RunLemmas.{end_kept, last_code, last_of_all, one_span}
 
 -- ---- the two kinds of bytes
-
-not_both : (ascii : Bool) (byte : ℕ) → IsByteOf ascii byte → IsByteOf (not ascii) byte → ⊥
-not_both ascii byte is other = grind arith
-
-same_kind : (a b : Bool) (byte : ℕ) → IsByteOf a byte → IsByteOf b byte → a ≡ b
-same_kind a b byte is too = grind arith
 
 other_kind : (a b : Bool) (byte : ℕ) → IsByteOf a byte → IsByteOf (not b) byte → not a ≡ b
 other_kind a b byte is too = grind arith
 
 past : (ascii : Bool) (o : Option ℕ) → IfSome o (IsByteOf (not ascii))
     → IfSome o (λ byte. ¬ (IsByteOf ascii byte))
-past ascii o held = grind (arith, not_both)
+past ascii o held = grind arith
 
 same_run : (a b : Run) → a.ascii ≡ b.ascii → a.bytes ≡ b.bytes → a ≡ b
 same_run a b kinds bytes = grind arith
@@ -42,7 +36,7 @@ kinds_of : (a b : Bool) (s t x y : List ℕ) → s ++ x ≡ t ++ y → s ≢ [] 
     → All (IsByteOf a) s → All (IsByteOf b) t → a ≡ b
 kinds_of a b [] t x y same some more front other = absurd (some refl)
 kinds_of a b (c ∷ s) [] x y same some more front other = absurd (more refl)
-kinds_of a b (c ∷ s) (d ∷ t) x y same some more front other = grind (arith, same_kind, All-head)
+kinds_of a b (c ∷ s) (d ∷ t) x y same some more front other = grind (arith, All-head)
 
 -- the first chunk of a part, and what follows it, are the only ones
 one_first_chunk : (part : WithStart (List ℕ)) (chunk : WithStart Run) (rest : WithStart (List ℕ))
@@ -58,7 +52,7 @@ one_first_chunk part chunk rest other left is too =
     is.is_run.one (subst (λ k. All (IsByteOf k) also.bytes) (sym kind) too.is_run.one)
     (past run.ascii (slice_get rest.item 0) is.bounded) (grind (arith, past, not)) in (
       chunk_at chunk other (is.start ∙ sym too.start) (same_run run also kind cut.0),
-      grind (arith, same_span),
+      grind arith,
     )
 
 empty : (s t : List ℕ) → s ≢ [] → s ++ t ≡ [] → ⊥
@@ -105,11 +99,6 @@ border first last front [] is too joined bounded edge =
     (last_of_all (IsByteOf first.ascii) first.bytes is.some is.one) at in
     grind (arith, head_of_run)
 
-end_of : (P : ℕ → Type 0) (front rest : List ℕ)
-    → IfSome (slice_get (front ++ rest) (length (front ++ rest) - 1)) P
-    → IfSome (slice_get rest (length rest - 1)) P
-end_of P front rest edge = grind (arith, end_kept)
-
 -- the chunks of what comes before the last chunk, and the last chunk, are the chunks of the part
 pub ChunksOf-push : (part : WithStart (List ℕ)) (chunk : WithStart Run)
     (front : WithStart (List ℕ)) (chunks : List (WithStart Run)) → ChunksOf front chunks
@@ -129,7 +118,7 @@ ChunksOf-push part chunk front (first ∷ others) held is =
     ap length (sym cut.joined) ∙ length-append first.item.bytes rest.item in (
       after,
       grind (arith, append_assoc, border),
-      ChunksOf-push after chunk rest others held.2 (grind (arith, end_of, not)),
+      ChunksOf-push after chunk rest others held.2 (grind (arith, not, end_kept)),
     )
 
 -- ---- loops

@@ -26,8 +26,8 @@ pub Extends-refused : {S A E : Type 0} {sure : ℕ} (steps : S → Option A → 
     → new.text ≡ mid.text → mid.capacity < length (mid.text ++ piece refused)
     → sure < length (mid.text ++ piece refused)
     → Extends sure steps piece iter old new result
-Extends-refused {S} {A} {E} {sure} steps piece iter old mid new items left refused after result e is gave next so_far room stays full beyond =
-    grind (arith, common_steps, flat_map-append)
+Extends-refused {S} {A} {E} {sure} steps piece iter old mid new items left refused after result e is gave
+    next so_far room stays full beyond = grind (arith, common_steps, flat_map-append)
 
 module _ {S A : Type 0} (steps : S → Option A → S → Type 0) where
   pub yields_both : (xs ys : List A) (s t u : S) → Yields steps s xs t → Yields steps t ys u
@@ -52,12 +52,6 @@ module _ {S A : Type 0} (steps : S → Option A → S → Type 0) where
       pub gave : Yields steps iter items left
       pub text : now.text ≡ old.text ++ map code items
       pub capacity : old.capacity ≤ now.capacity
-
-    -- each item adds one code
-    length_with : (text : List ℕ) (items : List A) (x : A)
-        → length (text ++ flat_map (λ x. code x ∷ []) (items ++ x ∷ []))
-        ≡ length text + length items + 1
-    length_with text items x = grind (arith, flat_map_single, length-append, length-map)
 
     module _ {sure : ℕ} (iter mid next : S) (old now new : StringState) (codes : List ℕ) (count : ℕ)
         (before : Gathers iter mid old now) (run : Fills steps code mid next codes count) where
@@ -88,7 +82,7 @@ module _ {S A : Type 0} (steps : S → Option A → S → Type 0) where
           let items = before.items ++ take front.taken run.items in
           let size : length (old.text ++ flat_map (λ x. code x ∷ []) (items ++ stop.1 ∷ []))
           ≡ length now.text + front.taken + 1 =
-          grind (arith, length_with, length-append, length-map, length-take-le) in
+          grind (arith, length-append, length-map, length-take-le, flat_map_single) in
           grind (arith, yields_both, flat_map_single, common_steps, map-append, take-map)
 
 -- the pieces of the items up to the one that did not fit are longer than the sure length

@@ -1,7 +1,7 @@
 -- What a cut leaves of a part.
 use Rattle.std.proofs.Common.{◌≡◌, ℕ, ◌+◌, ◌-◌, ◌≤◌, List, [], ◌∷◌, ◌++◌, length, take, drop, sym}
 use Rattle.std.proofs.Common.{ap, ◌∙◌, append_assoc, arith, length-append, length-take-le, subst}
-use Rattle.std.proofs.Common.{Option, Some}
+use Rattle.std.proofs.Common.{Some}
 use Rattle.std.proofs.Math.Seq.{drop-append_seam, take-append_seam}
 use Rattle.std.proofs.lemmas.List.{get_or_push, length_push, take-append-drop}
 use Rattle.ascii.specs.declared.iter.cursor.Cursor.{Cursor}
@@ -9,9 +9,8 @@ use Rattle.ascii.specs.Found.{IsSplitAt, part_in}
 use Rattle.std.proofs.lemmas.List.Elements.{All-head}
 use Rattle.ascii.specs.Parts.{IsBefore, IsAfter, WithStart, part_end}
 use Rattle.ascii.specs.View.{text_of}
-use Rattle.std.specs.Option.{IfSome, IsSomeAnd}
 use Rattle.ascii.specs.declared.iter.spans.SplitSpan.{SplitSpan}
-use Rattle.ascii.specs.Cutting.{Cutting, IsLawful, left_of}
+use Rattle.ascii.specs.Cutting.{Cutting, IsLawful}
 use Rattle.ascii.specs.Pieces.{Remaining}
 use Rattle.ascii.specs.Placed.{ArePlaced, IsPlaced}
 use Rattle.ascii.specs.Spans.{items_of}
@@ -78,16 +77,11 @@ module _ (on : ℕ) (part item : WithStart (List ℕ)) (cut : Cursor × Cursor) 
 abbrev pub texts_left : {C : Type 0} → Remaining C (WithStart (List ℕ)) → Remaining C (List ℕ)
 texts_left left = record { on = left.on; items = items_of left.items; rest = left.rest }
 
-with_witness : (A : WithStart (List ℕ) → WithStart (List ℕ) → Type 0) (span : WithStart (List ℕ))
-    (rest : Option (WithStart (List ℕ))) → IsSomeAnd rest (λ part. A part span)
-    → IsSomeAnd rest (λ part. (one : WithStart (List ℕ)) × (one.item ≡ span.item) × A part one)
-with_witness A span rest is = grind arith
-
 module _ {C : Type 0} (side : Side) (cuts : C → Cutting) (old new : Remaining C (WithStart (List ℕ)))
     (span : SplitSpan) where
   pub text_step : StepsSpan side cuts old (Some span) new
       → StepsText side cuts (texts_left old) (Some span.text) (texts_left new)
-  text_step is = grind (arith, with_witness)
+  text_step is = grind arith
 
 -- an item that was cut off is in the part
 module _ (cut : Cutting) (laws : IsLawful cut) (part span : WithStart (List ℕ))
@@ -100,8 +94,3 @@ module _ (cut : Cutting) (laws : IsLawful cut) (part span : WithStart (List ℕ)
   last_placed is =
       let all = subst (ArePlaced part.start part.item) is (laws.placed part) in
       grind (arith, get_or_push, length_push)
-
-pub placed_left : (cut : Cutting) → IsLawful cut → (rest : Option (WithStart (List ℕ)))
-    (items : List (WithStart (List ℕ))) → items ≡ left_of cut.spans rest
-    → IfSome rest (λ part. ArePlaced part.start part.item items)
-placed_left cut laws rest items is = grind arith

@@ -1,7 +1,7 @@
 -- The lines of a text by each kind of ending, and the line of some bytes.
 use Rattle.std.proofs.Common.{◌≡◌, ◌≢◌, ℕ, zero, suc, ◌+◌, ◌-◌, ◌<◌, List, [], ◌∷◌, ◌++◌, length}
-use Rattle.std.proofs.Common.{◌≤◌, ◌↔◌, length-append, get_or, take, refl, sym, ap, subst, ◌∙◌}
-use Rattle.std.proofs.Common.{arith, inl, inr, append-nil}
+use Rattle.std.proofs.Common.{◌≤◌, length-append, get_or, take, refl, sym, ap, subst, ◌∙◌, arith}
+use Rattle.std.proofs.Common.{inl, inr, append-nil}
 use Rattle.std.proofs.Math.ListN.{get_or-append}
 use Rattle.std.proofs.lemmas.Grind.{common_steps}
 use Rattle.std.specs.List.{All, Contains, flat_map}
@@ -13,7 +13,7 @@ use Rattle.ascii.specs.declared.iter.spans.Ending.TheVariants as ending
 use Rattle.ascii.specs.Found.{line_spans}
 use Rattle.ascii.specs.Lines.{Line, MayFollow, ending_text, line_text, IsBody, IsCrLfAt, MayEnd}
 use Rattle.ascii.specs.Lines.{LinesEndedBy}
-use Rattle.ascii.specs.Spans.{WithStart, items_of, line_size, with_starts, LineSpansEndedBy}
+use Rattle.ascii.specs.Spans.{WithStart, items_of, line_size, LineSpansEndedBy}
 use Rattle.ascii.proofs.LinesLemmas.{LinesEndedBy-cons, LinesEndedBy-nil}
 use Rattle.ascii_base.proofs.ListLemmas.{front_is}
 use Rattle.ascii.proofs.SpansLemmas.{items-with_starts, line_spans_found}
@@ -108,7 +108,6 @@ after_cr (x ∷ rest) ending.Lf text lines feed held =
 after_cr (x ∷ rest) ending.CrLf text lines feed held =
     let old : Line = record { body = x ∷ rest; ending = ending.CrLf } in
     let new : Line = record { body = rest; ending = ending.CrLf } in
-    let is : x ∷ (line_text new ++ flat_map line_text lines) ≡ text = held.joined in
     let whole : 13 ∷ 10 ∷ (line_text new ++ flat_map line_text lines) ≡ 13 ∷ text = grind arith in (
       record { body = []; ending = ending.CrLf } ∷ new ∷ lines,
       subst (λ t. LinesEndedBy CrLf t (record { body = []; ending = ending.CrLf } ∷ new ∷ lines))
@@ -119,7 +118,6 @@ after_cr (x ∷ rest) ending.CrLf text lines feed held =
 after_cr (x ∷ []) ending.Absent text lines feed held =
     let old : Line = record { body = x ∷ []; ending = ending.Absent } in
     let none : lines ≡ [] = last_if_absent old lines held.ended refl in
-    let is : x ∷ flat_map line_text lines ≡ text = held.joined in
     let whole : 13 ∷ 10 ∷ [] ≡ 13 ∷ text = grind arith in (
       record { body = []; ending = ending.CrLf } ∷ [],
       grind (arith, before_empty, LinesEndedBy-nil),
@@ -127,7 +125,6 @@ after_cr (x ∷ []) ending.Absent text lines feed held =
 after_cr (x ∷ y ∷ rest) ending.Absent text lines feed held =
     let old : Line = record { body = x ∷ y ∷ rest; ending = ending.Absent } in
     let new : Line = record { body = y ∷ rest; ending = ending.Absent } in
-    let is : x ∷ (line_text new ++ flat_map line_text lines) ≡ text = held.joined in
     let whole : 13 ∷ 10 ∷ (line_text new ++ flat_map line_text lines) ≡ 13 ∷ text = grind arith in (
       record { body = []; ending = ending.CrLf } ∷ new ∷ lines,
       subst (λ t. LinesEndedBy CrLf t (record { body = []; ending = ending.CrLf } ∷ new ∷ lines))
@@ -175,7 +172,6 @@ cr_lf_spans : (start : ℕ) (text : List ℕ)
     → (spans : List (WithStart Line)) × LineSpansEndedBy CrLf start text spans
 cr_lf_spans start text =
     let found = some_cr_lf_lines text in
-    let spans = with_starts line_size start found.0 in
     let alone = sym (items-with_starts line_size start found.0) in grind arith
 
 pub some_spans : (kind : Endings) (start : ℕ) (text : List ℕ)
@@ -183,8 +179,7 @@ pub some_spans : (kind : Endings) (start : ℕ) (text : List ℕ)
 some_spans Any start text =
     let part : WithStart (List ℕ) = record { start = start; item = text } in
     (line_spans part, line_spans_found part)
-some_spans CrLf start text = cr_lf_spans start text
-some_spans CrLfStrict start text = cr_lf_spans start text
+some_spans kind start text = grind (arith, cr_lf_spans)
 
 -- a body with neither CR nor LF has no CR LF
 pub cr_lf_body : (body : List ℕ) → IsBody CrLfStrict body → IsBody CrLf body
@@ -207,15 +202,6 @@ any_text_spans kind start text spans held =
 
 -- ---- the line of bytes by CR LF
 
-short_line : (line : List ℕ) → length line < 2 → ¬ (IsCrLfAt line (length line - 1))
-short_line line short = grind arith
-
--- a text ends in CR LF where its last two bytes are these
-pub cr_lf_last : (line : List ℕ)
-    → ((2 ≤ length line) × (get_or line (length line - 2) 0 ≡ 13)
-    × (get_or line (length line - 1) 0 ≡ 10)) ↔ IsCrLfAt line (length line - 1)
-cr_lf_last line = grind (arith, cases_lt, short_line)
-
 -- such a text is its body and CR LF
 cr_lf_parts : (line : List ℕ) → 2 ≤ length line → get_or line (length line - 2) 0 ≡ 13
     → get_or line (length line - 1) 0 ≡ 10 → take (length line - 2) line ++ 13 ∷ 10 ∷ [] ≡ line
@@ -227,7 +213,6 @@ module _ (start : ℕ) (line body : List ℕ) (one : IsOneLine CrLf line) where
       → LineSpansEndedBy CrLf start line
       (record { start = start; item = record { body = body; ending = ending.Absent } } ∷ [])
   open_line is other =
-      let last : Line = record { body = body; ending = ending.Absent } in
       let free : IsBody CrLf line = grind (arith, cases_lt, feed_inside) in
       grind (arith, append-nil, LinesEndedBy-cons, LinesEndedBy-nil)
 
@@ -236,8 +221,6 @@ module _ (start : ℕ) (line body : List ℕ) (one : IsOneLine CrLf line) where
       → LineSpansEndedBy CrLf start line
       (record { start = start; item = record { body = body; ending = ending.CrLf } } ∷ [])
   closed_line is ends =
-      let new : Line = record { body = body; ending = ending.CrLf } in
-      let parts = (cr_lf_last line).1 ends in
       let whole : body ++ 13 ∷ 10 ∷ [] ≡ line = grind (arith, cr_lf_parts) in
       let long : length body + 2 ≡ length line = grind (arith, length-append) in
       grind (arith, feed_inside, get_or-append, append-nil, LinesEndedBy-cons, LinesEndedBy-nil)
@@ -275,7 +258,6 @@ strict_body line body ending.CrLf whole free may one =
     (λ k low. no_cr_below line (length line - 1) k one.1 (omega (arith, low, long)))
 strict_body line body ending.Absent whole free may one =
     let is : body ≡ line = sym (append-nil body) ∙ whole in
-    let long : length body ≡ length line = ap length is in
     elim one.2 [
       | inl ends ↦ grind arith
       | inr open_end ↦ clean_body line body (length body) refl

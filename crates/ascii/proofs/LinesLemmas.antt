@@ -36,11 +36,6 @@ lines_of_pieces-append (p ∷ []) (q ∷ qs) some = refl
 lines_of_pieces-append (p ∷ next ∷ ps) qs some =
     ap (λ ls. terminated_line p ∷ ls) (lines_of_pieces-append (next ∷ ps) qs some)
 
--- the lines around an LF are those up to it, and then those after it
-lines_of-joint : (a b : List ℕ)
-    → lines_of (a ++ 10 ∷ b) ≡ map terminated_line (pieces_of 10 a) ++ lines_of b
-lines_of-joint a b = grind (arith, slice_split-joint, lines_of_pieces-append, slice_split-some)
-
 -- the first line is before the first LF
 pub lines_of-split_at_first : (t a b : List ℕ) → t ≡ a ++ 10 ∷ b → HasNo 10 a
     → lines_of t ≡ terminated_line a ∷ lines_of b
@@ -49,7 +44,14 @@ lines_of-split_at_first t a b is free =
 
 -- whole lines, and what comes after them
 pub lines_of-behind : (a b : List ℕ) → IsEndedBy 10 a → lines_of (a ++ b) ≡ lines_of a ++ lines_of b
-lines_of-behind a b is = grind (arith, append_assoc, lines_of-joint, append-nil)
+lines_of-behind a b is = grind (
+  arith,
+  append_assoc,
+  append-nil,
+  slice_split-joint,
+  lines_of_pieces-append,
+  slice_split-some,
+)
 
 -- ---- the line before a LF
 

@@ -1,7 +1,7 @@
 -- The lines of a text whose body contains a needle.
 use Rattle.std.proofs.Common.{◌≡◌, ℕ, zero, suc, ◌+◌, ◌-◌, ◌<◌, ◌≤◌, true, false, List, [], ◌∷◌}
-use Rattle.std.proofs.Common.{◌++◌, length, get_or, take, drop, refl, sym, ap, subst, ◌∙◌, None}
-use Rattle.std.proofs.Common.{Some, arith, inl, inr, append_assoc, length-append}
+use Rattle.std.proofs.Common.{◌++◌, length, take, drop, refl, sym, ap, subst, ◌∙◌, None, Some}
+use Rattle.std.proofs.Common.{arith, inl, inr, append_assoc, length-append}
 use Rattle.std.specs.Bool.{Decides}
 use Rattle.std.specs.List.{filter, flat_map}
 use Rattle.std.proofs.Math.Seq.{drop-append_seam}
@@ -14,8 +14,7 @@ use Rattle.std.proofs.lemmas.List.Sums.{count_by-le-length, length-filter}
 use Rattle.memchr.specs.Find.{FindsNeedle, OccursAt, occurs_at}
 use Rattle.memchr.proofs.lemmas.MatchLemmas.{OccursAt-true, occurs_at-true}
 use Rattle.ascii.specs.declared.iter.cursor.Cursor.{Cursor}
-use Rattle.ascii.specs.Found.{IsAfterLines, IsEndedBy, IsSplitAfterLast, contains_text, line_spans}
-use Rattle.ascii.specs.Found.{lines_with}
+use Rattle.ascii.specs.Found.{IsAfterLines, IsSplitAfterLast, contains_text, line_spans, lines_with}
 use Rattle.ascii.specs.Lines.{Line, ending_text, line_text}
 use Rattle.ascii.specs.Search.{ContainsText}
 use Rattle.ascii.specs.Spans.{Filters, WithStart, line_size, with_starts}
@@ -66,14 +65,11 @@ module _ (a b needle : List ℕ) (k : ℕ) where
   in_first : k + length needle ≤ length a → OccursAt (a ++ b) needle k → OccursAt a needle k
   in_first fits occurs = grind (arith, get_or_append_left)
 
-  read_second : (j : ℕ) → get_or (a ++ b) (length a + k + j) 0 ≡ get_or b (k + j) 0
-  read_second j = grind (arith, get_or-append-add)
-
   behind_first : OccursAt b needle k → OccursAt (a ++ b) needle (length a + k)
-  behind_first occurs = grind (arith, length-append, read_second)
+  behind_first occurs = grind (arith, length-append, get_or-append-add)
 
   in_second : OccursAt (a ++ b) needle (length a + k) → OccursAt b needle k
-  in_second occurs = grind (arith, length-append, read_second)
+  in_second occurs = grind (arith, length-append, get_or-append-add)
 
 -- ---- lines of a text without the needle
 
@@ -111,14 +107,6 @@ module _ (needle : List ℕ) (part : WithStart (List ℕ)) where
 
 -- ---- lines before the first needle
 
--- the lines of whole lines and of what comes after them
-line_spans_joint : (start : ℕ) (before after : List ℕ) → IsEndedBy 10 before
-    → line_spans (record { start = start; item = before ++ after })
-    ≡ line_spans (record { start = start; item = before })
-    ++ line_spans (record { start = start + length before; item = after })
-line_spans_joint start before after whole =
-    grind (arith, lines_of-behind, with_starts-append, room-lines_of)
-
 -- the part after the whole lines that end by a position
 pub after_lines : (place n : ℕ) (part to rest : WithStart (List ℕ)) (cut : Cursor × Cursor)
     → place ≤ length part.item → to.item ≡ take place part.item → IsSplitAfterLast 10 to cut
@@ -127,7 +115,6 @@ pub after_lines : (place n : ℕ) (part to rest : WithStart (List ℕ)) (cut : C
 after_lines place n part to rest cut inside to_is is long start text =
     let before = text_of cut.0.view in
     let behind = text_of cut.1.view ++ drop place part.item in
-    let front : take place part.item ≡ before ++ text_of cut.1.view = sym to_is ∙ is.text in
     let whole : part.item ≡ before ++ behind = grind (arith, take-append-drop, append_assoc) in
     let rest_is : rest.item ≡ behind = grind (arith, drop-append_seam) in
     grind (arith, length-append before (text_of cut.1.view), length-take-le place part.item inside)
@@ -163,12 +150,11 @@ module _ (needle : List ℕ) (place : ℕ) (part rest : WithStart (List ℕ))
   front = record { start = part.start; item = is.before }
 
   all_lines : line_spans part ≡ line_spans front ++ line_spans rest
-  all_lines = grind (arith, line_spans_joint)
+  all_lines = grind (arith, lines_of-behind, with_starts-append, room-lines_of)
 
   none_before : 0 < length is.before → ¬ (ContainsText needle is.before)
   none_before some occurs =
       let k = occurs.0 in
-      let fits = occurs.1.fits in
       let short = is.short in
       elim (cases_lt k place) [
         | inl sooner ↦ in_joint.0.before k (omega arith) sooner

@@ -1,14 +1,14 @@
 -- The items that the ways of cutting a text find are what the text has where they start.
 use Rattle.std.proofs.Common.{◌≡◌, ◌≢◌, ℕ, zero, suc, ◌+◌, ◌-◌, ◌<◌, ◌≤◌, Bool, true, false, List}
-use Rattle.std.proofs.Common.{[], ◌∷◌, ◌++◌, length, take, drop, reverse, refl, sym, ap, ◌∙◌}
-use Rattle.std.proofs.Common.{subst, arith, inl, inr, ◌⊎◌, append_assoc, append-nil, length-append}
-use Rattle.std.proofs.Common.{eqb-true, take_at, drop-drop, ◌==◌}
-use Rattle.std.proofs.Common.{None, Some}
+use Rattle.std.proofs.Common.{[], ◌∷◌, ◌++◌, length, take, drop, reverse, refl, sym, ap, ◌∙◌, subst}
+use Rattle.std.proofs.Common.{arith, inl, inr, ◌⊎◌, append_assoc, append-nil, length-append}
+use Rattle.std.proofs.Common.{take_at, drop-drop, ◌==◌, None, Some}
 use Rattle.std.proofs.Math.Seq.{drop-append_seam}
 use Rattle.std.specs.List.{All, flat_map}
 use Rattle.std.proofs.lemmas.Bool.{cases_Bool, cases_lt, false≢true}
 use Rattle.std.proofs.lemmas.List.{length-take-le, reverse-append, take-append-drop}
-use Rattle.std.proofs.lemmas.List.Elements.{All-append, All-cons, All-filter, All-head, All-nil, All-tail}
+use Rattle.std.proofs.lemmas.List.Elements.{All-append, All-cons, All-filter, All-head, All-nil}
+use Rattle.std.proofs.lemmas.List.Elements.{All-tail}
 use Rattle.memchr.specs.Find.{FindsNeedle, Nowhere, OccursAt, occurs_at}
 use Rattle.memchr.proofs.lemmas.MatchLemmas.{OccursAt-split, OccursAt-true, occurs_at-true}
 use Rattle.ascii.specs.ByClass.{has_some, piece_spans_by, word_spans_by}
@@ -116,7 +116,6 @@ module _ (items : ℕ → List ℕ → List (WithStart (List ℕ)))
           | inr first ↦
               let long : length t ≡ length first.front + length first.rest =
               ap length first.split ∙ length-append first.front first.rest in
-              let more = first.some in
               let next : start + length first.front - offset
               ≡ (start - offset) + length first.front = omega (arith, low) in
               let behind : drop (start + length first.front - offset) text ≡ first.rest =
@@ -210,7 +209,6 @@ module _ (on : ℕ) where
             inr (inl (items_open (λ piece. piece ++ on ∷ []) on start (d ∷ t) free (λ none. cc)))
         | inr cut ↦
             let a = cut.before in
-            let c_is = eqb-true cut.code on cut.cuts in
             let split : d ∷ t ≡ a ++ on ∷ cut.after = grind arith in
             let whole : d ∷ t ≡ (a ++ on ∷ []) ++ cut.after = grind (arith, append_assoc) in
             let size : length (a ++ on ∷ []) ≡ length a + 1 = length-append a (on ∷ []) in

@@ -2,7 +2,6 @@
 use Rattle.std.proofs.Common.{◌≡◌, ◌≢◌, ℕ, ◌+◌, List, [], ◌++◌, Some, None, length, take, drop, sym}
 use Rattle.std.proofs.Common.{subst, ◌∙◌, append_assoc, arith}
 use Rattle.std.specs.List.{slice_range}
-use Rattle.std.proofs.lemmas.Grind.{common_steps}
 use Rattle.std.proofs.lemmas.List.{nil_from_length, take_rest}
 use Rattle.memchr.specs.Find.{FindsNeedle}
 use Rattle.ascii.specs.Replace.{Replaces}
@@ -17,7 +16,6 @@ pub replaces_more : (from to whole done rest piece later copied : List ℕ) (k :
     → (out : List ℕ) → Replaces from to later out → Replaces from to whole (copied ++ out)
 replaces_more from to whole done rest piece later copied k found piece_is later_is copied_is left
     out more =
-    let start : piece ≡ take k rest = piece_is ∙ grind (arith, common_steps) in
     let end = later_is ∙ take_rest rest (k + length from) in
     let moved : Replaces from to (drop (k + length from) rest) out = grind arith in
     let all : done ++ (take k rest ++ (to ++ out)) ≡ copied ++ out = grind (arith, append_assoc) in

@@ -49,10 +49,6 @@ front_push : (codes : List ℕ) (kept : ℕ) (b : Bool) (code : ℕ) → kept < 
     → take (kept + cond b 1 0) (set codes kept code) ≡ take kept codes ++ cond b (code ∷ []) []
 front_push codes kept b code inside = grind (arith, take_more_set, add-zero, take-set, append-nil)
 
-map_cond : (b : Bool) (ch : AsciiChar)
-    → map code_of (cond b (ch ∷ []) []) ≡ cond b (code_of ch ∷ []) []
-map_cond b ch = grind arith
-
 counted : (b : Bool) (kept at : ℕ) → kept ≤ at → kept + cond b 1 0 ≤ at + 1
 counted b kept at order = grind arith
 
@@ -76,7 +72,6 @@ module _ {F : Type 0} (R : F → AsciiChar → Bool → F → Type 0) where
   keeps_push from q r old codes kept at b ch inside long is so_far call =
       let order = so_far.order in
       let code = code_of ch in
-      let here = items_where_true so_far.answers so_far.all in
       let same : code ≡ get_or old at 0 = is ∙ (ap (λ n. get_or codes n 0) (sym (add-zero at))
       ∙ (grind (arith, get_or-drop, add-zero))) in
       record {
@@ -86,7 +81,7 @@ module _ {F : Type 0} (R : F → AsciiChar → Bool → F → Type 0) where
         are = map-append code_of so_far.all (ch ∷ [])
             ∙ (grind (arith, take_more_set old, set-get_or old));
         called = grind (arith, returns_push);
-        front = grind (arith, front_push, map_cond, map-append, where_push);
+        front = grind (arith, front_push, map-append, where_push);
         rest = drop-set-lt (at + 1) codes kept code (omega (arith, order))
             ∙ (sym (drop-drop 1 at codes) ∙ (ap (λ t. drop 1 t) so_far.rest ∙ drop-drop 1 at old));
         order = counted b kept at order;

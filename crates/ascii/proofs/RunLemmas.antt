@@ -1,6 +1,6 @@
 -- Runs of codes at the ends of a text.
-use Rattle.std.proofs.Common.{◌≡◌, ◌≢◌, ℕ, ◌-◌, ◌<◌, Bool, true, false, not, List, [], ◌∷◌, ◌++◌}
-use Rattle.std.proofs.Common.{take, length, get_or, refl, arith}
+use Rattle.std.proofs.Common.{◌≡◌, ◌≢◌, ℕ, ◌-◌, Bool, true, false, not, List, [], ◌∷◌, ◌++◌, take}
+use Rattle.std.proofs.Common.{length, get_or, refl, arith}
 use Rattle.std.specs.Option.{IfSome}
 use Rattle.std.specs.List.{All, slice_get}
 use Rattle.std.specs.Bool.{Decides}
@@ -14,12 +14,6 @@ use Rattle.ascii_base.specs.Bytes.{IsOnSide}
 use Rattle.ascii.specs.ByClass.{side_test}
 use Rattle.ascii_base.specs.Runs.{EndsRun, StartsRun}
 use Rattle.ascii_search.proofs.MarkedLemmas.{not_not}
-use Rattle.ascii.specs.Spans.{WithStart}
-
--- the code at a position, if there is one
-code_at : (P : ℕ → Type 0) (t : List ℕ) (i : ℕ) → (i < length t → P (get_or t i 0))
-    → IfSome (slice_get t i) P
-code_at P t i at = grind (arith, cases_lt, slice_get-get_or, slice_get_past)
 
 -- ---- the last code
 
@@ -44,7 +38,8 @@ module _ (Is : ℕ → Type 0) where
   pub end_kept : (front t : List ℕ) → t ≢ []
       → IfSome (slice_get (front ++ t) (length (front ++ t) - 1)) Is
       → IfSome (slice_get t (length t - 1)) Is
-  end_kept front t some bounded = grind (arith, code_at, common_steps, last_kept, last_code)
+  end_kept front t some bounded =
+      grind (arith, common_steps, last_kept, last_code, cases_lt, slice_get-get_or, slice_get_past)
 
 -- a text is cut in one way into codes with a property and what begins with a code without it
 pub one_span : (P : ℕ → Type 0) (a b x y : List ℕ) → a ++ x ≡ b ++ y → All P a → All P b
@@ -59,33 +54,23 @@ one_span P (c ∷ a) (d ∷ b) x y same front other left right =
     let is = one_span P a b x y tails (All-tail P c a front) (All-tail P d b other) left right in
     (cc (head, is.0), is.1)
 
--- items at one start are equal
-pub same_span : (a b : WithStart (List ℕ)) → a.start ≡ b.start → a.item ≡ b.item → a ≡ b
-same_span a b starts items = grind arith
-
 -- ---- a run on a side of a class, as a run of that side and as one outside the other side
 module _ (Is : ℕ → Type 0) where
-  not_both : (side : Bool) (code : ℕ) → IsOnSide Is (not side) code → ¬ (IsOnSide Is side code)
-  not_both side code out = grind arith
-
-  not_other : (side : Bool) (code : ℕ) → IsOnSide Is side code → ¬ (IsOnSide Is (not side) code)
-  not_other side code is = grind arith
-
   pub ends_gap : (side : Bool) (text : List ℕ) (from end : ℕ)
       → EndsRun Is side text from end → EndsRun (IsOnSide Is side) true text from end
-  ends_gap side text from end run = grind (arith, not_both)
+  ends_gap side text from end run = grind arith
 
   pub ends_word : (side : Bool) (text : List ℕ) (from end : ℕ)
       → EndsRun Is side text from end → EndsRun (IsOnSide Is (not side)) false text from end
-  ends_word side text from end run = grind (arith, not_other)
+  ends_word side text from end run = grind arith
 
   pub starts_gap : (side : Bool) (text : List ℕ) (to start : ℕ)
       → StartsRun Is side text to start → StartsRun (IsOnSide Is side) true text to start
-  starts_gap side text to start run = grind (arith, not_both)
+  starts_gap side text to start run = grind arith
 
   pub starts_word : (side : Bool) (text : List ℕ) (to start : ℕ)
       → StartsRun Is side text to start → StartsRun (IsOnSide Is (not side)) false text to start
-  starts_word side text to start run = grind (arith, not_other)
+  starts_word side text to start run = grind arith
 
   -- the run before a gap, with its last code, in the text up to the gap
   pub starts_last : (side : Bool) (text : List ℕ) (end start : ℕ)

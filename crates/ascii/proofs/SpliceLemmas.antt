@@ -10,17 +10,14 @@ module _ (t piece : List ℕ) (start end : ℕ) (order : start + length piece �
   abbrev front : List ℕ
   front = take start t ++ piece
 
-  front_long : length front ≡ start + length piece
-  front_long = grind (arith, length-append, length-take-le)
-
   -- what is written over a part, and the text after that part
   spliced : (w : List ℕ) → w ≡ replace_range t start (start + length piece) piece
       → take (start + length piece) w ++ drop end w ≡ replace_range t start end piece
   spliced w is =
-      let whole : w ≡ front ++ drop (length front) t = grind (arith, front_long) in
-      let far : length front + (end - (start + length piece)) ≡ end = grind (arith, front_long) in
+      let far : length front + (end - (start + length piece)) ≡ end =
+      grind (arith, length-append, length-take-le) in
       let before : take (start + length piece) w ≡ front =
-      grind (arith, front_long, take-append_seam) in
+      grind (arith, take-append_seam, length-append, length-take-le) in
       let after : drop end w ≡ drop end t =
       ap (λ n. drop n w) (sym far)
       ∙ (sym (drop-drop (end - (start + length piece)) (length front) w)
@@ -33,4 +30,4 @@ module _ (t piece : List ℕ) (start end : ℕ) (order : start + length piece �
       → EditsInPlace (take (start + length piece) mid.text ++ drop end mid.text) mid new
       → GrowsTo {E = E} sure (replace_range t start end piece) old new (Ok tt)
   splices {E} {sure} old mid new same written cut =
-      grind (arith, spliced, length-append, front_long, length-drop)
+      grind (arith, spliced, length-append, length-drop, length-take-le)

@@ -8,10 +8,9 @@ use Rattle.std.specs.List.{insert, refill, remove, repeat}
 use Rattle.std.proofs.lemmas.Str.{IsAscii-take, IsAscii-drop, IsAscii-append}
 use Rattle.std.proofs.lemmas.Str.Ascii.{IsAscii-cons, IsAscii-map, IsAscii-nil}
 use Rattle.std.specs.declared.fmt.Error.{Error}
-use Rattle.std.specs.declared.result.Result.{Result}
 use Rattle.ascii_base.specs.Bytes.{FirstOther}
 use Rattle.ascii_base.specs.Case.{upper_image, lower_image}
-use Rattle.ascii.specs.StringState.{EditsInPlace, GrowsTo, StringState, Writes}
+use Rattle.ascii.specs.StringState.{EditsInPlace, StringState, Writes}
 
 -- the upper image of a code is a code
 pub upper_image-below : (n : ℕ) → n < 128 → upper_image n < 128
@@ -30,12 +29,6 @@ pub IsAscii-remove : (t : List ℕ) (i : ℕ) → IsAscii t → IsAscii (remove 
 IsAscii-remove t i a =
     IsAscii-append (take i t) (drop (suc i) t) (IsAscii-take t i a) (IsAscii-drop t (suc i) a)
 
--- a text that grows to a text is a text, also if it does not
-pub IsAscii-grown : {E : Type 0} {sure : ℕ} (to : List ℕ) (old new : StringState)
-    (result : Result (Unit {0}) E)
-    → GrowsTo sure to old new result → IsAscii old.text → IsAscii to → IsAscii new.text
-IsAscii-grown to old new result grows a b = grind arith
-
 -- written again in its place
 pub IsAscii-written : (t w new : List ℕ) → new ≡ refill (length t) t w → IsAscii t → IsAscii w
     → IsAscii new
@@ -43,16 +36,13 @@ IsAscii-written t w new is a b = subst IsAscii (sym is)
     (IsAscii-take (w ++ drop (length w) t) (length t)
     (IsAscii-append w (drop (length w) t) b (IsAscii-drop t (length w) a)))
 
--- written whole
-pub refill-same : (t w : List ℕ) → length w ≡ length t → refill (length t) t w ≡ w
-refill-same t w same = grind (arith, take-append_seam)
-
 -- bytes written again in their place are an edit
 pub EditsInPlace-written : (to w : List ℕ) (held old new : StringState) → held ≡ old
     → new.text ≡ refill (length held.text) held.text w → new.capacity ≡ held.capacity
     → length held.text ≤ held.capacity → length w ≡ length held.text → w ≡ to
     → EditsInPlace to old new
-EditsInPlace-written to w held old new same text capacity room full is = grind (arith, refill-same)
+EditsInPlace-written to w held old new same text capacity room full is =
+    grind (arith, take-append_seam)
 
 -- the bytes of a buffer after a text in front of them is mapped to codes
 pub IsAscii-mapped : (f : ℕ → ℕ) → ((b : ℕ) → b < 128 → f b < 128)

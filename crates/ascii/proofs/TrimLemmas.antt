@@ -22,7 +22,6 @@ module _ (Is : ℕ → Type 0) where
       → start ≡ unwrap_or r (length t) → IsSpan Is t (take start t) (drop start t)
   IsSpan-cut t None start all is = grind (arith, common_steps, take-append-drop)
   IsSpan-cut t (Some i) start first is =
-      let inside : i < length t = first.inside in
       record {
         joined = take-append-drop start t;
         within = All-from_get_or Is (take start t) 0 (grind (arith, common_steps, get_or-take));

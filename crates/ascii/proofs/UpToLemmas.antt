@@ -1,6 +1,6 @@
 -- At most `n` pieces of a text, of which the n-th holds the rest.
-use Rattle.std.proofs.Common.{◌≡◌, ◌≢◌, ◌<◌, ℕ, zero, suc, List, [], ◌∷◌, ◌++◌, take, refl, sym, ap}
-use Rattle.std.proofs.Common.{◌∙◌, arith, Option, None, Some}
+use Rattle.std.proofs.Common.{◌≡◌, ◌<◌, ℕ, zero, suc, List, [], ◌∷◌, take, refl, sym, ap, ◌∙◌}
+use Rattle.std.proofs.Common.{arith, Option, None, Some}
 use native.Mathlib.Numerals.{unary_clauses}
 use Rattle.std.specs.List.{Contains, join_with_byte}
 use Rattle.std.proofs.Math.Seq.{take-nil}
@@ -27,10 +27,6 @@ module _ (on : ℕ) where
   up_to-one text [] whole = absurd (whole.some refl)
   up_to-one text (piece ∷ pieces) whole = ap (λ t. t ∷ []) whole.joined
 
-  join-more : (piece : List ℕ) (pieces : List (List ℕ)) → pieces ≢ []
-      → join_with_byte on (piece ∷ pieces) ≡ piece ++ on ∷ join_with_byte on pieces
-  join-more piece pieces some = grind arith
-
   -- the pieces found are in the relation
   pub up_to_found : (n : ℕ) (text : List ℕ) (pieces : List (List ℕ)) → Pieces text on pieces
       → PiecesUpTo n text on (pieces_up_to on n pieces)
@@ -54,7 +50,7 @@ module _ (on : ℕ) where
         free = simp unary_clauses (All-cons Free piece (take n (pieces_up_to on (suc n) rest))
             (All-head Free piece rest whole.free) (simp unary_clauses at after.free));
         some = λ more none. cc;
-        joined = grind (arith, join-more);
+        joined = grind arith;
       }
 
   -- no other list is in the relation

@@ -9,7 +9,6 @@ pub loop-at-preserved : goal.loop-at-preserved
 loop-at-preserved g c =
     let l = c.loop-at in
     let ch = c.in-Some.ch in
-    let steps = c.in-Some.ensures.steps in
     let nearer = c.in-Some.ensures.goes.on l.invariant.ends in
     let inside : l.at < length l.codes = omega arith in
     record {

@@ -25,8 +25,6 @@ returns-in_err-push_str-2-clause-full g c =
     let others : Yields steps c.next.new.self c.loop-piece.yielded c.loop-piece.piece-iterator =
     search rules in
     let separator = text_of c.args.separator in
-    let text : c.loop-piece.string.text ≡ text_of c.in-Some.first
-    ++ flat_map (λ view. separator ++ text_of view) c.loop-piece.yielded = search rules in
     rw p.1 (joined_past steps separator g.B.Buffer.sure c.args.iter c.next.new.self
     c.loop-piece.piece-iterator c.next-in-loop-piece.new.self c.in-Some.first c.in-Some-piece.piece
     c.loop-piece.yielded c.in-Some.ensures.steps others c.in-Some-piece.ensures.steps
@@ -40,8 +38,6 @@ returns-in_err-push_str-3-clause-full g c =
     let others : Yields steps c.next.new.self c.loop-piece.yielded c.loop-piece.piece-iterator =
     search rules in
     let separator = text_of c.args.separator in
-    let text : c.loop-piece.string.text ≡ text_of c.in-Some.first
-    ++ flat_map (λ view. separator ++ text_of view) c.loop-piece.yielded = search rules in
     let piece = text_of c.in-Some-piece.piece in
     rw p.1 (joined_past steps separator g.B.Buffer.sure c.args.iter c.next.new.self
     c.loop-piece.piece-iterator c.next-in-loop-piece.new.self c.in-Some.first c.in-Some-piece.piece
@@ -51,8 +47,6 @@ returns-in_err-push_str-3-clause-full g c =
 pub returns-clause-text : goal.returns-clause-text
 returns-clause-text g c =
     let steps = g.I.Iterator.next_gives in
-    let others : Yields steps c.next.new.self c.loop-piece.yielded c.loop-piece.piece-iterator =
-    search rules in
     let text : c.loop-piece.string.text ≡ text_of c.in-Some.first
     ++ flat_map (λ view. text_of c.args.separator ++ text_of view) c.loop-piece.yielded =
     search rules in (

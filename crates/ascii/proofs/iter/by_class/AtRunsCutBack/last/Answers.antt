@@ -57,7 +57,6 @@ returns-clause-marks g c = grind (arith, not, eqb, take-take)
 
 pub returns-clause-left : goal.returns-clause-left
 returns-clause-left g c =
-    let text = text_of c.args.part.view in
     let found = c.in_ok-found.found in
     let gap = c.in_ok-found.ensures.gap.high in
     let high = c.in_ok-found.ensures.run.high in

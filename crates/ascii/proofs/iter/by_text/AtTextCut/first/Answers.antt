@@ -36,7 +36,6 @@ returns-in-None-clause-item c = (
 pub returns-in-Some-clause-left : goal.returns-in-Some-clause-left
 returns-in-Some-clause-left c =
     let text = text_of c.args.part.view in
-    let at = c.in-Some.at in
     let fits = c.in-Some.ensures.1.fits in
     after_place _ (part_in c.args.part) _ (part_in c.from.result) _
     (omega (arith, fits, c.len.ensures)) c.from.ensures.start c.from.ensures.text

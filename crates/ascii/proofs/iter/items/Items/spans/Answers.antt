@@ -1,7 +1,6 @@
 use Rattle.std.proofs.Common.{refl, subst, sym, arith}
 use Rattle.std.proofs.lemmas.List.{length-map}
 use Rattle.ascii.specs.Cuts.{IsSpansOf}
-use Rattle.ascii.proofs.LeftLemmas.{placed_left}
 use Rattle.ascii.proofs.StepsLemmas.{runs_in_order, runs_in_reverse}
 use Rattle.ascii.proofs.iter.items.Items.spans.Goals as goal
 
@@ -15,7 +14,7 @@ returns g c =
       are = c.tell_items.ensures.items;
       same = refl;
       long = sym (length-map spans.items (λ span. span.item));
-      placed = grind (arith, placed_left);
+      placed = grind arith;
       loops = runs_in_order _ _ _;
       loops_back = runs_in_reverse _ _ _;
     })
