@@ -163,21 +163,18 @@ marks_other Is bytes at n mask few marks = grind (arith, cases_lt, low, bit_at-l
 
 -- what is not outside a class is in it
 module _ (Is : ℕ → Type 0) (test : ℕ → Bool) (decides : (n : ℕ) → Decides (test n) (Is n)) where
-  pub not_outside : (n : ℕ) → ¬ (¬ (Is n)) → Is n
-  not_outside n out = grind (arith, cases_Bool, not_from_Decides)
-
   pub first_of_found : (bytes : List ℕ) (found : Option ℕ)
       → FindsFirstNot (λ byte. ¬ (Is byte)) bytes (length bytes) found
       → MatchOption found (All (λ byte. ¬ (Is byte)) bytes) (IsFirstOf Is bytes 0 (length bytes))
   first_of_found bytes None all = All-from_get_or (λ byte. ¬ (Is byte)) bytes 0 all
-  first_of_found bytes (Some i) found = grind (arith, not_outside)
+  first_of_found bytes (Some i) found = grind (arith, cases_Bool, not_from_Decides)
 
   pub last_of_found : (bytes : List ℕ) (found : Option ℕ)
       → FindsLastNot (λ byte. ¬ (Is byte)) bytes 0 found
       → MatchOption found (All (λ byte. ¬ (Is byte)) bytes) (IsLastOf Is bytes)
   last_of_found bytes None all = All-from_get_or (λ byte. ¬ (Is byte)) bytes 0
       (λ k l. all k (omega arith) l)
-  last_of_found bytes (Some i) found = grind (arith, not_outside)
+  last_of_found bytes (Some i) found = grind (arith, cases_Bool, not_from_Decides)
 
 -- one byte more that is not in the class sets its bit, and one in the class leaves it clear
 module _ (Is : ℕ → Type 0) (bytes : List ℕ) (at k mask : ℕ) where

@@ -1,16 +1,12 @@
 -- A class as the ranges that a loop has gone through.
 use Rattle.std.proofs.Common.{ℕ, ◌≡◌, ◌+◌, ◌<◌, ◌++◌, List, [], ◌∷◌, Bool, true, false, cond, ◌||◌}
 use Rattle.std.proofs.Common.{◌&&◌, not, ◌-◌, bit_and, bit_or, leb, length, map, take, get_or, refl}
-use Rattle.std.proofs.Common.{ap, sym, ◌∙◌, Fits, w8, arith}
+use Rattle.std.proofs.Common.{ap, sym, ◌∙◌, arith}
 use Rattle.std.proofs.lemmas.List.{take_more}
 use Rattle.std.proofs.lemmas.Bool.{false≢true}
 use Rattle.std.specs.Bool.{Decides}
-use Rattle.ascii_base.specs.Lanes.{Marks}
 use lib.Lanes.{top}
 use Rattle.ascii_base.specs.Class.{in_ranges}
-
-or_assoc : (a b c : Bool) → ((a || b) || c) ≡ (a || (b || c))
-or_assoc a b c = grind arith
 
 or_false : (a : Bool) → (a || false) ≡ a
 or_false a = grind arith
@@ -18,7 +14,7 @@ or_false a = grind arith
 in_ranges-append : (xs ys : List (ℕ × ℕ)) (n : ℕ)
     → in_ranges (xs ++ ys) n ≡ (in_ranges xs n || in_ranges ys n)
 in_ranges-append [] ys n = refl
-in_ranges-append (x ∷ xs) ys n = grind (arith, or_assoc, in_ranges-append xs ys n)
+in_ranges-append (x ∷ xs) ys n = grind (arith, in_ranges-append xs ys n)
 
 -- one range more
 pub in_ranges_more : (xs : List (ℕ × ℕ)) (i n : ℕ) → i < length xs
@@ -31,11 +27,6 @@ in_ranges_more xs i n less =
     ∙ ap (λ b. in_ranges (take i xs) n || b)
     (or_false (leb (get_or xs i (0, 0)).0 n && leb n (get_or xs i (0, 0)).1))
 
--- the mask of a lane that is in a set or in a range
-joined : (a b c : Bool)
-    → bit_or (cond a 255 0) (bit_and (cond b 255 0) (cond c 255 0)) ≡ cond (a || (b && c)) 255 0
-joined a b c = grind arith
-
 map_same : (f g : ℕ → ℕ) → ((x : ℕ) → f x ≡ g x) → (xs : List ℕ) → map f xs ≡ map g xs
 map_same f g same xs = grind arith
 
@@ -45,7 +36,7 @@ pub masks_more : (xs : List (ℕ × ℕ)) (i : ℕ) → i < length xs → (lanes
     (bit_and (cond (leb (get_or xs i (0, 0)).0 x) 255 0)
     (cond (leb x (get_or xs i (0, 0)).1) 255 0))) lanes
     ≡ map (λ x. cond (in_ranges (take (i + 1) xs) x) 255 0) lanes
-masks_more xs i less = map_same _ _ (grind (arith, joined, leb, in_ranges_more))
+masks_more xs i less = map_same _ _ (grind (arith, leb, in_ranges_more))
 
 -- the mask of a lane that is in a set, turned over
 pub flipped : (b : Bool) → top 7 (255 - cond b 255 0) ≡ not b
@@ -63,10 +54,3 @@ is_out b P decides e is = false≢true (sym (not-true b e) ∙ decides.1 is)
 
 pub is_within : (b : Bool) (P : Type 0) → Decides b P → not b ≡ false → P
 is_within b P decides e = decides.0 (not-false b e)
-
--- the marks of a class are those of another that has the same bytes
-pub marks_of_same : (Is Other : ℕ → Type 0)
-    → ((x : ℕ) → x < 256 → (Is x → Other x) × (Other x → Is x))
-    → (bytes : List ℕ) (at n mask : ℕ) → ((k : ℕ) → Fits w8 (get_or bytes k 0))
-    → Marks Is bytes at n mask → Marks Other bytes at n mask
-marks_of_same Is Other same bytes at n mask fits marks = grind arith
