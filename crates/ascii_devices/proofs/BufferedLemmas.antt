@@ -71,23 +71,14 @@ pub AppendsBytes-trans : {a b c : OutputState} (first second : List ℕ)
     → AppendsBytes a b first → AppendsBytes b c second → AppendsBytes a c (first ++ second)
 AppendsBytes-trans {a} {b} {c} first second one two = grind (arith, appends_by)
 
--- no byte was appended
-nothing_by : (p : Bool) (a : OutputState) → AppendsBy p p a a []
-nothing_by p a = grind (arith, Sends-nil, append-nil, Keeps-refl)
-
 pub AppendsBytes-nil : (a : OutputState) → AppendsBytes a a []
-AppendsBytes-nil a = grind (arith, nothing_by)
+AppendsBytes-nil a = grind (arith, Sends-nil, append-nil, Keeps-refl)
 
 -- bytes that are equal to those appended
 pub AppendsBytes-is : {a b : OutputState} {bytes same : List ℕ}
     → same ≡ bytes → AppendsBytes a b same → AppendsBytes a b bytes
 AppendsBytes-is {a} {b} is appends = subst (AppendsBytes a b) is appends
 
--- if no write has failed by now, none had before, and no failure was counted
-unbroken_by : (p q : Bool) (a b : OutputState) (bytes : List ℕ)
-    → AppendsBy p q a b bytes → q ≡ false → (p ≡ false) × (b.failures ≡ a.failures)
-unbroken_by p q a b bytes appends whole = grind (arith, false≢true)
-
 pub MayFail-still : {a b : OutputState} (bytes : List ℕ)
     → MayFail a → AppendsBytes a b bytes → MayFail b
-MayFail-still {a} {b} bytes may appends = grind (arith, unbroken_by)
+MayFail-still {a} {b} bytes may appends = grind (arith, false≢true)

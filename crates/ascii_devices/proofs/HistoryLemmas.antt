@@ -69,9 +69,6 @@ tells-nil of none a = tells-by of a a [] [] (Grows-nil a) none
 received-read : (bytes : List ℕ) → received_of (read_of bytes) ≡ bytes
 received-read bytes = received_of-all bytes
 
-sent-flushed : (bytes : List ℕ) → sent_of (write_of bytes ++ Flushed ∷ []) ≡ bytes
-sent-flushed bytes = grind (arith, sent_of-append, append-nil, sent_of-all)
-
 -- ---- what a source gave
 
 module _ {S : Type 0} (says : source.Ghosts S) where
@@ -154,7 +151,8 @@ module _ {K : Type 0} (says : sink.Ghosts K) where
   pub Takes-flushed : (a b : K) (bytes : List ℕ) → Appends (says.taken a) (says.taken b) bytes
       → Grows (says.history a) (says.history b) (write_of bytes ++ Flushed ∷ [])
       → Takes says a b bytes
-  Takes-flushed a b bytes took grows = grind (arith, tells-by, sent-flushed)
+  Takes-flushed a b bytes took grows =
+      grind (arith, tells-by, sent_of-append, append-nil, sent_of-all)
 
   -- some bytes, and then nothing happened at it
   pub Takes-kept : (a b c : K) (bytes : List ℕ) → Takes says a b bytes
