@@ -1,6 +1,6 @@
 -- What a bounded run has read and written, part by part.
-use Rattle.std.proofs.Common.{◌≢◌, ◌≡◌, ◌+◌, ◌-◌, ◌<◌, ◌≤◌, ◌^◌, ℕ, List, [], ◌++◌, length, false}
-use Rattle.std.proofs.Common.{take, drop, arith, length-take-le, ap, sym, subst, ◌∙◌, append-nil}
+use Rattle.std.proofs.Common.{◌≡◌, ◌+◌, ◌-◌, ◌<◌, ◌≤◌, ◌^◌, ℕ, List, [], ◌++◌, length, false, take}
+use Rattle.std.proofs.Common.{drop, arith, length-take-le, ap, sym, subst, ◌∙◌, append-nil}
 use Rattle.std.proofs.Common.{length-append, inl, inr, append_assoc, take-append-drop, take_all}
 use Rattle.std.proofs.Math.Seq.{take-append-add}
 use Rattle.std.proofs.lemmas.Bool.{cases_lt}
@@ -19,7 +19,6 @@ use Rattle.ascii_devices.specs.States.{Gives, Takes}
 use Rattle.ascii_devices.specs.declared.Sink as sink
 use Rattle.ascii_devices.specs.declared.Source as source
 use Rattle.ascii_run.specs.declared.bounded.BoundedMode.{BoundedMode}
-use Rattle.ascii_run.specs.declared.bounded.BoundedMode.TheVariants.{Lines}
 use Rattle.ascii_run.specs.declared.faults.BoundedFault.{BoundedFault}
 use Rattle.ascii_run.specs.declared.faults.BoundedFault.TheVariants.{NotAscii, TooLong, Memory}
 use Rattle.ascii_run.specs.declared.faults.BoundedFault.TheVariants.{Read, Write}
@@ -63,10 +62,6 @@ cut_at mode done part n input more = record {
 cut_all : (mode : BoundedMode) (done : List ℕ) → IsInput mode done
     → IsCutAt mode done done (cut_off (stream mode) done)
 cut_all mode done input = grind (arith, append-nil, is_cut)
-
--- only `Lines` writes something then
-cut_of_lines : (mode : BoundedMode) (last : ℕ) → (stream mode).cut last ≢ [] → mode ≡ Lines
-cut_of_lines mode last some = grind arith
 
 -- the first non-ASCII byte after a text
 pub first_after : (done part : List ℕ) (place : ℕ) → IsAscii done
@@ -204,7 +199,7 @@ module _ {S K : Type 0} (source : source.Ghosts S) (sink : sink.Ghosts K) where
   pub reads_counted : (mode state : BoundedMode) (last : ℕ) (a b : K) (old new : ℕ)
       (result : BoundedFault) → state ≡ mode → StopsWith sink Read ((stream state).cut last) a b result
       → new ≡ old + 1 → CountsReads mode (Err result) old new
-  reads_counted mode state last a b old new result is given more = grind (arith, cut_of_lines)
+  reads_counted mode state last a b old new result is given more = grind arith
 
   -- the text is too long
   pub too_long : (mode state : BoundedMode) (last : ℕ) (r t : S) (a b c : K)

@@ -6,7 +6,7 @@ use Rattle.ascii_run.specs.declared.commands.Cmd.{Cmd}
 use Rattle.ascii_run.specs.declared.faults.EngineFault.{EngineFault}
 use Rattle.ascii_run.specs.Edit.{StopsEdits, edited, edits}
 use Rattle.ascii_run.specs.Run.{IsFault, IsNoFault, StopsAt, after, answer}
-use Rattle.ascii_run.specs.Step.{ReplyValue, Step, no_memory, rejection_of, reply_of}
+use Rattle.ascii_run.specs.Step.{ReplyValue, Step, no_memory, rejection_of}
 
 -- a command is rejected, and its reply says so; or it leaves the text after it, and its reply is
 -- another
@@ -14,16 +14,12 @@ abbrev pub Means : List ℕ → Cmd → Type 0
 Means t cmd = ((edited t cmd ≡ None) × IsFault (answer t cmd))
     ⊎ ((edited t cmd ≡ Some (after t cmd)) × IsNoFault (answer t cmd))
 
--- a reply of a command that is not rejected rejects nothing
-fine_reply : (t : List ℕ) (cmd : Cmd) → IsNoFault (reply_of t cmd)
-fine_reply t cmd is = grind arith
-
 -- and that of one that is does
 rejecting_reply : (t : List ℕ) (cmd : Cmd) → IsFault (rejection_of t cmd)
 rejecting_reply t cmd = grind arith
 
 pub means : (t : List ℕ) (cmd : Cmd) → Means t cmd
-means t cmd = grind (arith, rejecting_reply, fine_reply)
+means t cmd = grind (arith, rejecting_reply)
 
 -- what a step that is not rejected and finds its memory leaves
 pub edited_by : (sure : ℕ) (t : List ℕ) (cmd : Cmd) (r : ReplyValue) (t2 : List ℕ)
@@ -33,7 +29,7 @@ edited_by sure t cmd r t2 is fine some = grind (arith, rejecting_reply)
 -- a step with a rejecting reply
 pub rejected_by : (sure : ℕ) (t : List ℕ) (cmd : Cmd) (r : ReplyValue) (t2 : List ℕ)
     → Step sure t cmd r t2 → IsFault r → edited t cmd ≡ None
-rejected_by sure t cmd r t2 is fault = grind (arith, fine_reply)
+rejected_by sure t cmd r t2 is fault = grind arith
 
 -- one command more
 pub edits_more : (k : ℕ) (t : List ℕ) (cmds : List Cmd) (cmd : Cmd) (mid t2 : List ℕ)

@@ -26,13 +26,6 @@ pub last_item : {A : Type 0} (front : List A) (x : A)
 last_item [] x = refl
 last_item (y ∷ front) x = last_item front x
 
--- one end of a list
-taken : {A : Type 0} (end : End) (items : List A) (answer : Option A) (others : List A)
-    (script : List End)
-    → TakesEnd end items answer others
-    → answers (end ∷ script) items ≡ answer ∷ answers script others
-taken end items answer others script takes = grind (arith, length_push, last_item, take_at)
-
 -- the answers of a list are one list
 pub answers_only : {A : Type 0} (items : List A) (script : List End) (found : List (Option A))
     (left : List A)
@@ -41,7 +34,7 @@ answers_only items [] [] left to = refl
 answers_only items [] (answer ∷ found) left to = absurd to
 answers_only items (end ∷ script) [] left to = absurd to
 answers_only items (end ∷ script) (answer ∷ found) left to =
-    grind (arith, taken, answers_only to.0 script found left to.2)
+    grind (arith, answers_only to.0 script found left to.2, length_push, last_item, take_at)
 
 -- the output of the answers so far, and of those that are left
 abbrev pub ShowsSoFar : {A : Type 0} → (Option A → List ℕ) → List A → List End → List ℕ → List A

@@ -1,8 +1,8 @@
 -- The output of `lines` as one text: without each CR that is before LF, and with LF after a last
 -- line that has none.
 use Rattle.std.proofs.Common.{append-nil, ◌≡◌, ◌≢◌, ℕ, zero, suc, ◌+◌, ◌-◌, Bool, true, false, eqb}
-use Rattle.std.proofs.Common.{cond, ◌&&◌, List, [], ◌∷◌, ◌++◌, length, get_or, take, drop, refl}
-use Rattle.std.proofs.Common.{sym, ap, ◌∙◌, subst, arith, eqb-true, append_assoc, length-drop, ◌⊎◌}
+use Rattle.std.proofs.Common.{cond, List, [], ◌∷◌, ◌++◌, length, get_or, take, drop, refl, sym, ap}
+use Rattle.std.proofs.Common.{◌∙◌, subst, arith, eqb-true, append_assoc, length-drop}
 use Rattle.std.proofs.lemmas.List.Folds.{flat_map-map}
 use Rattle.std.specs.List.{All, Contains, flat_map}
 use Rattle.std.proofs.lemmas.List.Elements.{All-head, All-tail}
@@ -31,17 +31,9 @@ with_line_feeds text = with_feeds and_feed text
 
 -- ---- how it goes over a code
 
-neither : (c d : ℕ) (x y : Bool) → eqb c 13 ≡ x → eqb d 10 ≡ y → (c ≡ 13 → d ≡ 10 → ⊥)
-    → (x && y) ≡ false
-neither c d x y at_cr at_lf other = grind (arith, eqb-true)
-
 keeps : (last : ℕ → List ℕ) (c d : ℕ) (cs : List ℕ) → (c ≡ 13 → d ≡ 10 → ⊥)
     → with_feeds last (c ∷ d ∷ cs) ≡ c ∷ with_feeds last (d ∷ cs)
-keeps last c d cs other = grind (arith, neither, eqb)
-
-feed : (last : ℕ → List ℕ) → last 10 ≡ 10 ∷ [] → (t : List ℕ)
-    → with_feeds last (10 ∷ t) ≡ 10 ∷ with_feeds last t
-feed last is t = grind arith
+keeps last c d cs other = grind (arith, eqb, eqb-true)
 
 no_feed : (c : ℕ) → eqb c 10 ≡ false → c ≡ 10 → ⊥
 no_feed c other is = false≢true (sym other ∙ ap (λ x. eqb x 10) is)
@@ -94,11 +86,7 @@ ends_in_cr (c ∷ cs) is = grind (arith, slice_get-get_or)
 ended : (last : ℕ → List ℕ) → last 10 ≡ 10 ∷ [] → (body : List ℕ) (ending : Ending) (t : List ℕ)
     → HasNo 10 body → MayFollow ending body → ending ≢ Absent
     → with_feeds last ((body ++ ending_text ending) ++ t) ≡ with_line_feed body ++ with_feeds last t
-ended last is body ending t free may has = grind (arith, append_assoc, spliced, ends_in_cr, feed)
-
--- a line without an ending, or with one
-has_ending : (ending : Ending) → (ending ≡ Absent) ⊎ (ending ≢ Absent)
-has_ending ending = grind arith
+ended last is body ending t free may has = grind (arith, append_assoc, spliced, ends_in_cr)
 
 module _ (last : ℕ → List ℕ) (is : last 10 ≡ 10 ∷ []) (shown : Line → List ℕ)
     (whole : (line : Line) → line.ending ≢ Absent → shown line ≡ with_line_feed line.body)
@@ -106,7 +94,7 @@ module _ (last : ℕ → List ℕ) (is : last 10 ≡ 10 ∷ []) (shown : Line �
     → with_feeds last line.body ≡ shown line) where
   last_line : (line : Line) → HasNo 10 line.body → MayFollow line.ending line.body
       → with_feeds last (line_text line ++ []) ≡ shown line ++ []
-  last_line line free may = grind (arith, has_ending, append-nil, ended)
+  last_line line free may = grind (arith, append-nil, ended)
 
   all_lines : (lines : List Line) → All (λ line. ¬ (Contains line.body 10)) lines
       → All (λ line. MayFollow line.ending line.body) lines

@@ -70,11 +70,6 @@ runs_agree {A} {B} cmds first second runs =
       text = λ none1 none2. (plain1 none1).1 ∙ sym ((plain2 none2).1);
     }
 
--- an allocation that may fail past a sure length may fail past a smaller one
-may_refuse_less : (sure less : ℕ) (t : List ℕ) (cmd : Cmd) → less ≤ sure → MayRunOut sure t cmd
-    → MayRunOut less t cmd
-may_refuse_less sure less t cmd le h = grind arith
-
 -- where room is missing for a command that gives none back, the capacity is a sure length
 lacks_room : (sure : ℕ) (held : StringState) (cmd : Cmd) → cmd ≢ Shrink
     → MayRunOutIn sure held cmd → MayRunOut held.capacity held.text cmd
@@ -83,7 +78,7 @@ lacks_room sure held cmd ne h = grind arith
 -- if room is missing, an allocation may fail past the sure length
 lacks_may_refuse : (sure : ℕ) (held : StringState) (cmd : Cmd) → sure ≤ held.capacity
     → MayRunOutIn sure held cmd → MayRunOut sure held.text cmd
-lacks_may_refuse sure held cmd le h = grind (arith, may_refuse_less)
+lacks_may_refuse sure held cmd le h = grind arith
 
 module _ (held : StringState) (cmd : Cmd) (r : ReplyValue) (t2 : List ℕ)
     (step : Step 0 held.text cmd r t2) (sure : ℕ)
@@ -95,4 +90,4 @@ module _ (held : StringState) (cmd : Cmd) (r : ReplyValue) (t2 : List ℕ)
   -- up to the capacity every length is sure
   pub step_within : (start : ℕ) → start ≤ held.capacity → cmd ≢ Shrink
       → Step start held.text cmd r t2
-  step_within start le ne = grind (arith, lacks_room, may_refuse_less)
+  step_within start le ne = grind (arith, lacks_room)

@@ -14,12 +14,6 @@ use Rattle.ascii_run.specs.declared.faults.EngineFault.TheVariants.{Read}
 use Rattle.ascii_run.specs.declared.modes.Mode.{Mode}
 use Rattle.ascii_run.proofs.OutputBufferLemmas.{Runs}
 
--- the outcome says `Q` of the reader in place of `P`, if `Q` follows from `P` unless a read failed
-end_told : (mode : Mode) (result : Result (Unit {0}) EngineFault) (given took : List ℕ)
-    (P Q : Type 0) → (result ≢ Err Read → P → Q)
-    → EngineOutcome mode result given P took → EngineOutcome mode result given Q took
-end_told mode result given took P Q to none = grind arith
-
 module _ {S K : Type 0} (source : source.Ghosts S) (sink : sink.Ghosts K) (r t : S) (a b : K) where
   -- the outcome of `engine`: unless a read failed, the reader has lost the bytes that it gave
   pub engine_by_states : (mode : Mode) (result : Result (Unit {0}) EngineFault)
@@ -29,7 +23,7 @@ module _ {S K : Type 0} (source : source.Ghosts S) (sink : sink.Ghosts K) (r t :
       × (result ≢ Err Read → Consumes (source.rest r) (source.rest t) given)
       × Appends (sink.taken a) (sink.taken b) took
       × EngineOutcome mode result given (IsAtEnd (source.rest t)) took
-  engine_by_states mode result is counts = grind (arith, end_told)
+  engine_by_states mode result is counts = grind arith
 
   -- the outcome of `bounded_engine`: unless a read failed, the reader has `left` yet to give
   pub bounded_by_states : (mode : BoundedMode) (result : Result (Unit {0}) BoundedFault)

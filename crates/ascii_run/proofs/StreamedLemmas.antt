@@ -18,10 +18,6 @@ Law mode = (before : ℕ) (text more : List ℕ)
 
 -- ---- lines
 
-cond_more : (b : Bool) (c : ℕ) (xs ys : List ℕ)
-    → cond b (xs ++ ys) (c ∷ (xs ++ ys)) ≡ cond b xs (c ∷ xs) ++ ys
-cond_more b c xs ys = grind arith
-
 -- a code and a part after it
 joint : (c d : ℕ) (x y : Bool) → eqb c 13 ≡ x → (rest : List ℕ)
     → cond (x && y) rest (c ∷ rest)
@@ -32,8 +28,7 @@ feeds_more : (c : ℕ) (cs : List ℕ) (p : ℕ) (ps : List ℕ) → (before : �
     → front_feeds ((c ∷ cs) ++ p ∷ ps)
     ≡ front_feeds (c ∷ cs) ++ lines_part (last_after before (c ∷ cs)) (p ∷ ps)
 feeds_more c [] p ps before = joint c p (eqb c 13) (eqb p 10) refl (front_feeds (p ∷ ps))
-feeds_more c (d ∷ cs) p ps before =
-    grind (arith, eqb, cond_more, front_feeds, feeds_more d cs p ps before)
+feeds_more c (d ∷ cs) p ps before = grind (arith, eqb, front_feeds, feeds_more d cs p ps before)
 
 lines_law : Law (stream Lines)
 lines_law before [] more = refl
@@ -56,12 +51,9 @@ lines_end : (text : List ℕ)
     → front_feeds text ++ lines_closing (last_after 10 text) ≡ with_line_feeds text
 lines_end [] = refl
 lines_end (c ∷ []) = end_of c (eqb c 10) (eqb c 13) refl refl
-lines_end (c ∷ d ∷ cs) = grind (arith, eqb, cond_more, front_feeds, lines_end (d ∷ cs))
+lines_end (c ∷ d ∷ cs) = grind (arith, eqb, front_feeds, lines_end (d ∷ cs))
 
 -- ---- the table: the law of each mode, and what its output is
-
-law : (mode : BoundedMode) → Law (stream mode)
-law mode before text more = grind (arith, lines_law, flat_map-append, map-append)
 
 pub is_whole : (mode : BoundedMode) (text : List ℕ)
     → IsWholeOutput mode text (whole (stream mode) text)
@@ -85,13 +77,13 @@ no_more (x ∷ xs) is =
 
 -- of an empty text
 pub front_start : (mode : BoundedMode) → front (stream mode) [] ≡ (stream mode).opening
-front_start mode = grind (arith, no_more, law, append-nil)
+front_start mode = grind (arith, no_more, append-nil, lines_law, flat_map-append, map-append)
 
 -- one part more
 pub front_more : (mode : BoundedMode) (text part : List ℕ)
     → front (stream mode) text ++ (stream mode).part (last_after 10 text) part
     ≡ front (stream mode) (text ++ part)
-front_more mode text part = grind (arith, append_assoc, law)
+front_more mode text part = grind (arith, append_assoc, lines_law, flat_map-append, map-append)
 
 -- the last byte, after one part more
 pub last_more : (before : ℕ) (text part : List ℕ)
