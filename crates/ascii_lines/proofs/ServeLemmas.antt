@@ -166,7 +166,15 @@ module _ {H : Type 0} (answers : H → Line → List Reply → Next → H → Ty
       → (is_ended then ≡ true → (old.talk.is_at_end ≡ true) ⊎ EndsInEmptyRead (o.events ++ events))
       → (then ≢ supply.Failed → b.aside.failures ≡ old.output.aside.failures) → Base then new b
   base-more a b o whole steps more events said turns grows prompt gave took sent count at_end kept =
-      grind (arith, Grows-trans, AtEachRead-append, sent_of-append, Appends-trans, flat_map-append, append_two)
+      grind (
+        arith,
+        Grows-trans,
+        AtEachRead-append,
+        sent_of-append,
+        Appends-trans,
+        flat_map-append,
+        append_two,
+      )
 
   -- writes, for the replies to more steps
   base-writes : {now : Supply} {mid new : Place H} (a b : OutputState) → Base now mid a
