@@ -1,6 +1,6 @@
 -- What a search among the keys of a `FoldedMap` finds, and what an edit at that place changes.
-use Rattle.std.proofs.Common.{◌≡◌, ◌∙◌, ℕ, zero, suc, ◌+◌, ◌-◌, ◌<◌, ◌≤◌, Bool, true, false}
-use Rattle.std.proofs.Common.{List, [], ◌∷◌, Equal, Greater, IfErr, IfOk, Less, Ok, Err, None}
+use Rattle.std.proofs.Common.{◌≡◌, ◌∙◌, ℕ, zero, suc, ◌-◌, ◌<◌, ◌≤◌, Bool, true, false, List, []}
+use Rattle.std.proofs.Common.{◌∷◌, Equal, Greater, IfErr, IfOk, Less, None}
 use Rattle.std.proofs.Common.{Ordering, Result, Some, ⊎_elim, ap, arith, get_or}
 use Rattle.std.proofs.Common.{is_eq, is_lt, is_some, length, map, refl, set, sym}
 use Rattle.std.proofs.Math.Seq.{map-set_same}
