@@ -29,7 +29,7 @@ pub fn count_words(alloc: Global, text: AsciiStr<'_>) -> Result<FoldedMap<usize>
 
 /// Returns a line `COUNT WORD` for each word in lower case, in order, or an error if an allocation
 /// fails.
-pub fn report(alloc: Global, counts: &FoldedMap<usize>) -> Result<String, AllocError>
+pub fn tally_lines(alloc: Global, counts: &FoldedMap<usize>) -> Result<String, AllocError>
     ensures lines { IfOk result (λ lines.
         string_bytes lines ≡ flat_map count_line counts.now) }
     ensures ordered { OnOk result (IsInOrder counts.now) }
@@ -49,5 +49,5 @@ pub fn main(rt: HostRuntime) -> io::Result<()> {
         Err(error) => return println!(rt; "{error}"),
     };
     let counts = count_words(rt.alloc(), view)?;
-    print!(rt; "{}", report(rt.alloc(), &counts)?)
+    print!(rt; "{}", tally_lines(rt.alloc(), &counts)?)
 }

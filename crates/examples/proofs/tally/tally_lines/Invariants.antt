@@ -2,7 +2,7 @@ use Rattle.std.proofs.Common.{◌≡◌, ◌++◌, map, string_bytes}
 use Rattle.std.specs.List.{flat_map}
 use Rattle.ascii_keys.specs.Maps.{entry_of}
 use Rattle.examples.specs.Tally.{count_line}
-use Rattle.examples.proofs.tally.report.Given as goal
+use Rattle.examples.proofs.tally.tally_lines.Given as goal
 
 -- the lines are those of the entries so far, and after those come the ones that are left
 abbrev pub invariant-loop-word : goal.invariant-loop-word
