@@ -5,6 +5,7 @@ pub mod conversions;
 pub mod copies;
 pub mod edits;
 pub mod engines;
+pub mod for_c;
 pub mod json_values;
 pub mod lines;
 pub mod maps;
@@ -132,6 +133,7 @@ pub fn all() -> impl Iterator<Item = &'static Kind> {
         lines::KINDS,
         engines::KINDS,
         recipes::KINDS,
+        for_c::KINDS,
         UPSTREAM,
     ]
     .into_iter()

@@ -21,9 +21,14 @@ int main(void) {
     printf("%s\n", (const char *)text);
     printf("%d %d\n", ascii_equal_ignoring_case(bytes("Host"), 4, bytes("HOST"), 4),
            ascii_equal_ignoring_case(bytes("Host"), 4, bytes("Hos"), 3));
-    printf("%zu %zu\n", ascii_first_not_whitespace(bytes(" \tab "), 5), ascii_first_not_whitespace(bytes("  "), 2));
-    printf("%zu %zu\n", ascii_last_not_whitespace(bytes(" ab \n"), 5), ascii_last_not_whitespace(bytes("  "), 2));
+    printf("%zu %zu\n", ascii_find(bytes("abcabc"), 6, bytes("bc"), 2), ascii_find(bytes("abcabc"), 6, bytes("BC"), 2));
+    printf("%zu %zu\n", ascii_find_ignoring_case(bytes("abcABC"), 6, bytes("BC"), 2),
+           ascii_find_ignoring_case(bytes("abc"), 3, bytes("d"), 1));
     printf("%zu %zu\n", ascii_trim_start(bytes(" \tab "), 5), ascii_trim_start(bytes("  "), 2));
     printf("%zu %zu\n", ascii_trim_end(bytes(" ab \n"), 5), ascii_trim_end(bytes("  "), 2));
+    accepted = ascii_next_line(bytes("ab\r\nc"), 5, &place) == 2;
+    printf("%d %zu\n", accepted, place);
+    accepted = ascii_next_line(bytes(""), 0, &place) == 0;
+    printf("%d %zu\n", accepted, place);
     return 0;
 }
