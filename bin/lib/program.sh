@@ -1,5 +1,6 @@
 # Runs a program of this repository. bin/ascii_show and bin/ascii_filter read this file. They set `name`, the program, and
-# `parts`, the crates that it is made from; their function `help` prints the help.
+# `parts`, the crates that it is made from; their function `help` prints the help, and `is_mistyped` says of the words of a
+# call that it cannot be one.
 # A build counts if it was made from these sources with this toolchain. If there is none, the call is answered by the
 # unproved program (try_program.py).
 set -eu
@@ -73,6 +74,7 @@ sources=$(made_from)
 group="" scratch=""
 if [ "$*" != --build ]; then
   is_built "$sources" && exec "$program" "$@"
+  ! is_mistyped "$@" || { say "this is no call of $name: see bin/$name --help"; exit 2; }
   exec python3 -B "$here/bin/lib/try_program.py" "$name" "$@"
 fi
 trap 'stop 129' HUP
