@@ -206,6 +206,8 @@ FILTER = [
     Call("-0 without check", ["copy", "-0"], b"", 2, b"", OPTIONS),
     Call("an option of check", ["copy", "--quiet"], b"", 2, b"", OPTIONS),
     Call("arguments that are not valid UTF-8", [b"copy\310"], b"", 2, b"", said("an argument is not valid UTF-8")),
+    Call("an option that is not valid UTF-8", ["check", b"--max=\377"], b"", 2, b"", said("an argument is not valid UTF-8")),
+    Call("a name after -- that is not valid UTF-8", ["copy", "--", b"-\377"], b"", 3, b"", said(r"'-'$'\377': not valid UTF-8")),
     Call("the version", ["--version"], b"", 0, f"ascii_filter {(TOP / 'VERSION').read_text()}".encode()),
     Call("the help, as the wrapper has it", ["--help"], b"", 0, HELP),
     Call("check of a folder", ["check", "folder"], b"", 3, b"", FOLDER),

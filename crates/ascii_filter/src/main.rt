@@ -126,15 +126,29 @@ fn run_matches(
     }
 }
 
+/// What is said of an argument that is not text.
+const NOT_TEXT: &str = "ascii_filter: an argument is not valid UTF-8\n";
+
+/// Returns `true` if an argument that begins with `-`, before any `--`, is not valid UTF-8. Its word does not begin with `-`,
+/// so the parser would take it for a file.
+fn has_option_without_text(words: &[String], arguments: &[Vec<u8>]) -> bool {
+    let mut options = words
+        .iter()
+        .zip(arguments)
+        .take_while(|(word, _)| word.as_str() != "--");
+    options.any(|(word, argument)| !is_text(word) && argument.first() == Some(&b'-'))
+}
+
 /// Parses the arguments, before any input is read, and runs them.
 fn run_words(rt: &HostRuntime, words: &[String], arguments: &[Vec<u8>]) -> Result<u8, AllocError> {
+    if has_option_without_text(words, arguments) {
+        return Ok(refuse(rt, NOT_TEXT));
+    }
     let names = mode_names(rt.alloc())?;
     match command(rt.alloc(), &names)?.try_get_matches_from(words) {
         Ok(matches) => run_matches(rt, &matches, arguments),
         Err(error) if matches!(error.kind(), ErrorKind::OutOfMemory) => Err(AllocError),
-        Err(_) if words.iter().any(|word| !is_text(word)) => {
-            Ok(refuse(rt, "ascii_filter: an argument is not valid UTF-8\n"))
-        }
+        Err(_) if words.iter().any(|word| !is_text(word)) => Ok(refuse(rt, NOT_TEXT)),
         Err(error) => print_error(rt, &error),
     }
 }
