@@ -16,7 +16,7 @@ use Rattle.memchr.proofs.lemmas.MatchLemmas.{OccursAt-true, occurs_at-true}
 use Rattle.ascii.specs.declared.iter.cursor.Cursor.{Cursor}
 use Rattle.ascii.specs.Found.{IsAfterLines, IsSplitAfterLast, contains_text, line_spans, lines_with}
 use Rattle.ascii.specs.Lines.{Line, ending_text, line_text}
-use Rattle.ascii.specs.Search.{ContainsText}
+use Rattle.ascii.specs.Search.{ContainsText, IsByCodes}
 use Rattle.ascii.specs.Spans.{Filters, WithStart, line_size, with_starts}
 use Rattle.ascii.specs.View.{text_of}
 use Rattle.ascii.proofs.ByTextLemmas.{later, sooner}
@@ -56,53 +56,65 @@ not_there : (needle text : List ℕ) → ¬ (ContainsText needle text)
     → contains_text needle text ≡ false
 not_there needle text none = false_from_ne_true _ (λ is. none (found_there needle text is))
 
--- ---- where a needle is in two texts, one after the other
+-- ---- where a needle is in the image of two texts, one after the other
 
-module _ (a b needle : List ℕ) (k : ℕ) where
-  in_both : OccursAt a needle k → OccursAt (a ++ b) needle k
-  in_both occurs = grind (arith, length-append, get_or_append_left)
+module _ (image : List ℕ → List ℕ) (by : IsByCodes image) (a b needle : List ℕ) (k : ℕ) where
+  in_both : OccursAt (image a) needle k → OccursAt (image (a ++ b)) needle k
+  in_both occurs = rw (by.joined a b) (grind (arith, length-append, get_or_append_left))
 
-  in_first : k + length needle ≤ length a → OccursAt (a ++ b) needle k → OccursAt a needle k
-  in_first fits occurs = grind (arith, get_or_append_left)
+  in_first : k + length needle ≤ length a → OccursAt (image (a ++ b)) needle k
+      → OccursAt (image a) needle k
+  in_first fits occurs =
+      let joint = subst (λ t. OccursAt t needle k) (by.joined a b) occurs in
+      let size = by.long a in
+      grind (arith, get_or_append_left)
 
-  behind_first : OccursAt b needle k → OccursAt (a ++ b) needle (length a + k)
-  behind_first occurs = grind (arith, length-append, get_or-append-add)
+  behind_first : OccursAt (image b) needle k → OccursAt (image (a ++ b)) needle (length a + k)
+  behind_first occurs = rw (by.joined a b, ← by.long a)
+      (grind (arith, length-append, get_or-append-add))
 
-  in_second : OccursAt (a ++ b) needle (length a + k) → OccursAt b needle k
-  in_second occurs = grind (arith, length-append, get_or-append-add)
+  in_second : OccursAt (image (a ++ b)) needle (length a + k) → OccursAt (image b) needle k
+  in_second occurs =
+      let joint : OccursAt (image a ++ image b) needle (length (image a) + k) =
+      rw (by.long a) (subst (λ t. OccursAt t needle (length a + k)) (by.joined a b) occurs) in
+      grind (arith, length-append, get_or-append-add)
 
 -- ---- lines of a text without the needle
 
-without : (needle : List ℕ) (start : ℕ) (lines : List Line)
-    → ¬ (ContainsText needle (flat_map line_text lines))
-    → filter (λ line. contains_text needle line.item.body) (with_starts line_size start lines) ≡ []
-without needle start [] none = refl
-without needle start (line ∷ lines) none =
-    let others = flat_map line_text lines in
-    cond-false _ _ _ (not_there needle line.body (λ occurs. none (
-      occurs.0,
-      in_both (line_text line) others needle occurs.0
-          (in_both line.body (ending_text line.ending) needle occurs.0 occurs.1),
-    )))
-    ∙ without needle (start + line_size line) lines (λ occurs. none (
-      length (line_text line) + occurs.0,
-      behind_first (line_text line) others needle occurs.0 occurs.1,
-    ))
+module _ (image : List ℕ → List ℕ) (by : IsByCodes image) (needle : List ℕ) where
+  without : (start : ℕ) (lines : List Line)
+      → ¬ (ContainsText needle (image (flat_map line_text lines)))
+      → filter (λ line. contains_text needle (image line.item.body))
+      (with_starts line_size start lines) ≡ []
+  without start [] none = refl
+  without start (line ∷ lines) none =
+      let others = flat_map line_text lines in
+      cond-false _ _ _ (not_there needle (image line.body) (λ occurs. none (
+        occurs.0,
+        in_both image by (line_text line) others needle occurs.0
+            (in_both image by line.body (ending_text line.ending) needle occurs.0 occurs.1),
+      )))
+      ∙ without (start + line_size line) lines (λ occurs. none (
+        length (line_text line) + occurs.0,
+        behind_first image by (line_text line) others needle occurs.0 occurs.1,
+      ))
 
-module _ (needle : List ℕ) (part : WithStart (List ℕ)) where
-  pub lines_with_none : ¬ (ContainsText needle part.item) → lines_with needle part ≡ []
-  lines_with_none none = grind (arith, without, LinesOf-lines_of)
+  module _ (part : WithStart (List ℕ)) where
+    lines_with_none : ¬ (ContainsText needle (image part.item)) → lines_with image needle part ≡ []
+    lines_with_none none = grind (arith, without, LinesOf-lines_of)
 
-  pub lines_with_nowhere : FindsNeedle part.item needle 0 None → lines_with needle part ≡ []
-  lines_with_nowhere finds = lines_with_none (λ occurs. finds occurs.0 (omega arith)
-      (let fits = occurs.1.fits in omega (arith, fits)) occurs.1)
+    pub lines_with_nowhere : FindsNeedle (image part.item) needle 0 None
+        → lines_with image needle part ≡ []
+    lines_with_nowhere finds = lines_with_none (λ occurs. finds occurs.0 (omega arith)
+        (let fits = occurs.1.fits in omega (arith, fits)) occurs.1)
 
+module _ (image : List ℕ → List ℕ) (needle : List ℕ) (part : WithStart (List ℕ)) where
   -- they are those of the lines whose body contains it, and fit a `usize` as these do
-  pub lines_with_are : Filters (λ line. ContainsText needle line.item.body) (line_spans part)
-      (lines_with needle part)
+  pub lines_with_are : Filters (λ line. ContainsText needle (image line.item.body))
+      (line_spans part) (lines_with image needle part)
   lines_with_are = grind (arith, contains_text-decides)
 
-  pub lines_with_fit : length (lines_with needle part) ≤ length part.item + 1
+  pub lines_with_fit : length (lines_with image needle part) ≤ length part.item + 1
   lines_with_fit = grind (arith, length-filter, count_by-le-length, line_spans_fit)
 
 -- ---- lines before the first needle
@@ -141,10 +153,11 @@ first_body : (part : WithStart (List ℕ)) (line : WithStart Line) (others : Lis
 first_body part line others is = grind (arith, first_of_lines, LinesOf-lines_of)
 
 -- `rest` is what `part` has after some whole lines, which end at the first needle or before
-module _ (needle : List ℕ) (place : ℕ) (part rest : WithStart (List ℕ))
-    (found : FindsNeedle part.item needle 0 (Some place)) (is : IsAfterLines place part rest) where
-  in_joint : FindsNeedle (is.before ++ rest.item) needle 0 (Some place)
-  in_joint = subst (λ t. FindsNeedle t needle 0 (Some place)) is.text found
+module _ (image : List ℕ → List ℕ) (by : IsByCodes image) (needle : List ℕ) (place : ℕ)
+    (part rest : WithStart (List ℕ)) (found : FindsNeedle (image part.item) needle 0 (Some place))
+    (is : IsAfterLines place part rest) where
+  in_joint : FindsNeedle (image (is.before ++ rest.item)) needle 0 (Some place)
+  in_joint = subst (λ t. FindsNeedle (image t) needle 0 (Some place)) is.text found
 
   abbrev front : WithStart (List ℕ)
   front = record { start = part.start; item = is.before }
@@ -152,31 +165,32 @@ module _ (needle : List ℕ) (place : ℕ) (part rest : WithStart (List ℕ))
   all_lines : line_spans part ≡ line_spans front ++ line_spans rest
   all_lines = grind (arith, lines_of-behind, with_starts-append, room-lines_of)
 
-  none_before : 0 < length is.before → ¬ (ContainsText needle is.before)
+  none_before : 0 < length is.before → ¬ (ContainsText needle (image is.before))
   none_before some occurs =
       let k = occurs.0 in
       let short = is.short in
+      let size = by.long is.before in
       elim (cases_lt k place) [
         | inl sooner ↦ in_joint.0.before k (omega arith) sooner
-            (in_both is.before rest.item needle k occurs.1)
+            (in_both image by is.before rest.item needle k occurs.1)
         | inr past ↦ in_joint.0.before 0 (omega arith) (omega (arith, some, short)) (grind arith)
       ]
 
-  no_lines_before : lines_with needle front ≡ []
+  no_lines_before : lines_with image needle front ≡ []
   no_lines_before = go is.before none_before
     where
-      go : (before : List ℕ) → (0 < length before → ¬ (ContainsText needle before))
-          → lines_with needle (record { start = part.start; item = before }) ≡ []
+      go : (before : List ℕ) → (0 < length before → ¬ (ContainsText needle (image before)))
+          → lines_with image needle (record { start = part.start; item = before }) ≡ []
       go [] none = refl
       go (c ∷ before) none =
-          lines_with_none needle (record { start = part.start; item = c ∷ before })
+          lines_with_none image by needle (record { start = part.start; item = c ∷ before })
           (none (omega arith))
 
   -- the lines with the needle are among those of `rest`
-  same_lines_with : lines_with needle part ≡ lines_with needle rest
+  same_lines_with : lines_with image needle part ≡ lines_with image needle rest
   same_lines_with = ap (filter _) all_lines ∙ (grind (arith, filter-append, no_lines_before))
 
-  pub no_line : line_spans rest ≡ [] → lines_with needle part ≡ []
+  pub no_line : line_spans rest ≡ [] → lines_with image needle part ≡ []
   no_line none = same_lines_with ∙ ap (filter _) none
 
   module _ (line : WithStart Line) (others : WithStart (List ℕ))
@@ -187,35 +201,39 @@ module _ (needle : List ℕ) (place : ℕ) (part rest : WithStart (List ℕ))
 
     -- it contains the needle if the first one ends in its body
     in_body : part.start + place + length needle ≤ line.start + length line.item.body
-        → contains_text needle line.item.body ≡ true
+        → contains_text needle (image line.item.body) ≡ true
     in_body fits =
         let body = first_body rest line (line_spans others) first in
         let short = is.short in
         let k = place - length is.before in
         let at : place ≡ length is.before + k = omega (arith, short) in
-        let here : OccursAt rest.item needle k = in_second is.before rest.item needle k
-        (subst (OccursAt (is.before ++ rest.item) needle) at in_joint.1) in
-        there_found needle line.item.body k (in_first line.item.body body.1.0 needle k
+        let here : OccursAt (image rest.item) needle k =
+        in_second image by is.before rest.item needle k
+        (subst (OccursAt (image (is.before ++ rest.item)) needle) at in_joint.1) in
+        there_found needle (image line.item.body) k
+        (in_first image by line.item.body body.1.0 needle k
         (omega (arith, fits, body.0, is.start, at))
-        (subst (λ t. OccursAt t needle k) body.1.1 here))
+        (subst (λ t. OccursAt (image t) needle k) body.1.1 here))
 
     -- otherwise it does not
     past_body : line.start + length line.item.body < part.start + place + length needle
-        → contains_text needle line.item.body ≡ false
-    past_body past = not_there needle line.item.body (λ occurs.
+        → contains_text needle (image line.item.body) ≡ false
+    past_body past = not_there needle (image line.item.body) (λ occurs.
         let body = first_body rest line (line_spans others) first in
         let k = occurs.0 in
         let fits = occurs.1.fits in
-        let here : OccursAt rest.item needle k = subst (λ t. OccursAt t needle k) (sym body.1.1)
-        (in_both line.item.body body.1.0 needle k occurs.1) in
+        let size = by.long line.item.body in
+        let here : OccursAt (image rest.item) needle k =
+        subst (λ t. OccursAt (image t) needle k) (sym body.1.1)
+        (in_both image by line.item.body body.1.0 needle k occurs.1) in
         in_joint.0.before (length is.before + k) (omega arith)
-        (omega (arith, fits, past, body.0, is.start))
-        (behind_first is.before rest.item needle k here))
+        (omega (arith, fits, size, past, body.0, is.start))
+        (behind_first image by is.before rest.item needle k here))
 
     pub line_kept : part.start + place + length needle ≤ line.start + length line.item.body
-        → lines_with needle part ≡ line ∷ lines_with needle others
+        → lines_with image needle part ≡ line ∷ lines_with image needle others
     line_kept fits = same_lines_with ∙ (ap (filter _) first ∙ cond-true _ _ _ (in_body fits))
 
     pub line_left_out : line.start + length line.item.body < part.start + place + length needle
-        → lines_with needle part ≡ lines_with needle others
+        → lines_with image needle part ≡ lines_with image needle others
     line_left_out past = same_lines_with ∙ (ap (filter _) first ∙ cond-false _ _ _ (past_body past))

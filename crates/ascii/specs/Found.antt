@@ -118,9 +118,10 @@ contains_text needle [] = occurs_at [] needle 0
 contains_text needle (c ∷ text) =
     cond (occurs_at (c ∷ text) needle 0) true (contains_text needle text)
 
--- the lines of a part whose body contains `needle`
-abbrev pub lines_with : List ℕ → WithStart (List ℕ) → List (WithStart Line)
-lines_with needle part = filter (λ line. contains_text needle line.item.body) (line_spans part)
+-- the lines of a part of whose body `image` contains `needle`
+abbrev pub lines_with : (List ℕ → List ℕ) → List ℕ → WithStart (List ℕ) → List (WithStart Line)
+lines_with image needle part =
+    filter (λ line. contains_text needle (image line.item.body)) (line_spans part)
 
 -- ---- walks
 

@@ -1,5 +1,5 @@
 -- A text that begins with, ends with or contains another, and what is left of it.
-use Rattle.std.specs.Prelude.{◌≡◌, ℕ, List, [], ◌∷◌, ◌++◌, MatchOption, Option, map}
+use Rattle.std.specs.Prelude.{◌≡◌, ℕ, List, [], ◌∷◌, ◌++◌, MatchOption, Option, length, map}
 use Rattle.std.specs.List.{Contains}
 use Rattle.ascii_base.specs.Case.{lower_image}
 use Rattle.memchr.specs.Find.{OccursAt}
@@ -9,6 +9,12 @@ use Rattle.ascii.specs.View.{text_of}
 -- `text` contains `needle`, at some position
 abbrev pub ContainsText : List ℕ → List ℕ → Type 0
 ContainsText needle text = (k : ℕ) × OccursAt text needle k
+
+-- `image` maps a text character by character: it maps two texts, one after the other, to their
+-- images in that order, and keeps the length
+pub record IsByCodes (image : List ℕ → List ℕ) : Type 0 where
+  pub joined : (a b : List ℕ) → image (a ++ b) ≡ image a ++ image b
+  pub long : (text : List ℕ) → length (image text) ≡ length text
 
 -- `text` is `prefix` followed by `rest`
 abbrev pub IsPrefix : List ℕ → List ℕ → List ℕ → Type 0

@@ -1,22 +1,25 @@
-//! A text to search for that is prepared once, and the lines of a view that contain it.
+//! Texts to search for that are prepared once, and the lines of a view that contain one of them.
 //!
 //! | You want | Use |
 //! |---|---|
 //! | to search one text | `find`, `contains` of a view |
 //! | to search many texts for the same one | `Finder` |
-//! | the lines that contain a text | `lines_with` of a view |
+//! | .. ignoring ASCII case | `FinderIgnoringCase` |
+//! | the lines that contain a text | `lines_with` of a view, with either of these |
 //!
-//! A contract sees a `Finder` as the text that it searches for, and the iterator as the list of
+//! A contract sees a finder as the text that it searches for, and the iterator as the list of
 //! lines that it has yet to yield.
 //!
 //! Nothing here allocates.
 
 ghost use Rattle.std.specs.Prelude.{⊤, ◌≡◌, ◌≤◌, ◌<◌, ◌^◌, ◌↔◌, ◌∷◌, [], IfSome, IsTrue};
-ghost use Rattle.std.specs.Prelude.{MatchOption, length};
+ghost use Rattle.std.specs.Prelude.{List, MatchOption, length, map, ℕ};
 ghost use Rattle.std.specs.Iterator.{item_count};
 ghost use Rattle.memchr.specs.Find.{FindsNeedle};
+ghost use Rattle.ascii_base.specs.Case.{lower_image};
 ghost use Rattle.ascii.specs.Found.{IsAfterLines, lines_with, part_in};
-ghost use Rattle.ascii.specs.Search.{ContainsText};
+ghost use Rattle.ascii.specs.Placed.{ArePlacedLines};
+ghost use Rattle.ascii.specs.Search.{ContainsText, IsByCodes};
 ghost use Rattle.ascii.specs.Spans.{EndFits, Filters, OfLineSpans, line_in};
 ghost use Rattle.ascii.specs.Steps.{DropsFirstSpan, LoopsOverLineSpans, YieldsFirstAnd};
 ghost use Rattle.ascii.specs.View.{text_of};
@@ -29,6 +32,33 @@ use memchr::memmem;
 use std::alloc::AllocError;
 use std::iter::FusedIterator;
 use std::marker::Model;
+
+/// A finder of either kind, for `lines_with` of a view: a `Finder` or a `FinderIgnoringCase`.
+pub trait AnyFinder {
+    // the needle, as it is compared
+    ghost wanted: { Self → List ℕ };
+
+    // a text, as it is compared
+    ghost image: { List ℕ → List ℕ };
+
+    /// Returns the position of the first needle in `text`, or `None` if the text does not contain
+    /// it. An empty needle is found at 0.
+    ///
+    ///     let finder = FinderIgnoringCase::new(AsciiStr::literal("bc"));
+    ///     finder.first_in(AsciiStr::literal("aBC")) // Some(1)
+    ///     finder.first_in(AsciiStr::literal("acb")) // None
+    fn first_in(&self, text: AsciiStr<'_>) -> Option<usize>
+        ensures { FindsNeedle (image (text_of text.entry)) (wanted self.now) 0 result };
+
+    /// Returns the number of characters of the needle.
+    ///
+    ///     Finder::new(AsciiStr::literal("bc")).needle_len() // 2
+    fn needle_len(&self) -> usize
+        ensures { result ≡ length (wanted self.now) };
+
+    // texts are compared character by character
+    ghost by_codes: { IsByCodes image };
+}
 
 /// A text to search for, prepared once for any number of searches.
 ///
@@ -109,26 +139,146 @@ impl<'n> Finder<'n> {
     {
         self.find(text).is_some()
     }
+}
 
-    /// The first line of the part whose body contains the needle, and the part after its ending. If
-    /// the needle that is found first goes past the body of its line, the line does not contain it.
-    fn first_line<'a>(&self, part: Cursor<'a>) -> Option<(LineSpan<'a>, Cursor<'a>)>
-        ensures lines { MatchOption result (lines_with self.now (part_in part.entry) ≡ []) (λ cut.
-            lines_with self.now (part_in part.entry)
-            ≡ line_in cut.0 ∷ lines_with self.now (part_in cut.1)) }
-        ensures fits { IfSome result (λ cut. EndFits cut.0.start cut.0.text) }
-    {
-        let mut left = part;
-        while let Some(place) = self.find(left.view) {
-            let (line, others) = from_line_at(left, place).first_line()?;
-            let end = left.start + place + self.needle().len();
-            if end <= line.start + line.text.len() {
-                return Some((line, others));
-            }
-            left = others;
-        }
-        None
+impl AnyFinder for Finder<'_> {
+    ghost use Rattle.std.specs.Prelude.{refl};
+
+    ghost wanted = { λ finder. finder };
+
+    ghost image = { λ text. text };
+
+    #[inline(always)]
+    fn first_in(&self, text: AsciiStr<'_>) -> Option<usize> {
+        self.find(text)
     }
+
+    #[inline(always)]
+    fn needle_len(&self) -> usize {
+        self.needle().len()
+    }
+
+    ghost by_codes = { record { joined = λ a b. refl; long = λ text. refl } };
+}
+
+/// A text to search for, ignoring ASCII case, prepared once for any number of searches.
+///
+/// For a search in one text use `find_ignore_ascii_case` or `contains_ignore_ascii_case` of a view.
+#[derive(Drop)]
+pub struct FinderIgnoringCase<'n> {
+    needle: AsciiStr<'n>,
+}
+
+impl<'n> Model for FinderIgnoringCase<'n> {
+    ghost use Rattle.std.specs.Prelude.{List, ℕ};
+    ghost use Rattle.ascii.specs.View.{text_of};
+
+    ghost Value = { List ℕ };
+
+    ghost view = { λ finder. text_of finder.needle };
+}
+
+impl<'n> FinderIgnoringCase<'n> {
+    /// Creates a finder for `needle`, ignoring ASCII case. Does not allocate.
+    ///
+    /// Constant time.
+    ///
+    ///     FinderIgnoringCase::new(AsciiStr::literal("bC")).find(AsciiStr::literal("aBcabc")) // Some(1)
+    ///     FinderIgnoringCase::new(AsciiStr::literal("")).find(AsciiStr::literal("abc")) // Some(0)
+    pub fn new(needle: AsciiStr<'n>) -> FinderIgnoringCase<'n>
+        ensures { result ≡ text_of needle.entry }
+    {
+        FinderIgnoringCase { needle }
+    }
+
+    /// Returns the text that is searched for.
+    ///
+    ///     FinderIgnoringCase::new(AsciiStr::literal("bC")).needle() // "bC"
+    #[inline]
+    pub fn needle(&self) -> AsciiStr<'n>
+        ensures { text_of result ≡ self.now }
+    {
+        self.needle
+    }
+
+    /// Returns the position of the first needle in `text`, ignoring ASCII case, or `None` if the
+    /// text does not contain it so. An empty needle is found at 0.
+    ///
+    /// Takes linear time if the needle has at most 8,192 characters. At worst a longer one is
+    /// compared at each position.
+    ///
+    ///     let finder = FinderIgnoringCase::new(AsciiStr::literal("bC"));
+    ///     finder.find(AsciiStr::literal("aBcabc")) // Some(1)
+    ///     finder.find(AsciiStr::literal("acb")) // None
+    pub fn find(&self, text: AsciiStr<'_>) -> Option<usize>
+        ensures { FindsNeedle (map lower_image (text_of text.entry)) (map lower_image self.now)
+            0 result }
+    {
+        text.find_ignore_ascii_case(self.needle)
+    }
+
+    /// Returns `true` if `text` contains the needle, ignoring ASCII case.
+    ///
+    /// If the position is needed too, use `find`.
+    ///
+    ///     let finder = FinderIgnoringCase::new(AsciiStr::literal("bC"));
+    ///     finder.is_in(AsciiStr::literal("aBcabc")) // true
+    ///     finder.is_in(AsciiStr::literal("acb")) // false
+    ///     FinderIgnoringCase::new(AsciiStr::literal("")).is_in(AsciiStr::literal("")) // true
+    #[tactic(auto, using(crate::proofs::CutLemmas::found_if_contained))]
+    pub fn is_in(&self, text: AsciiStr<'_>) -> bool
+        ensures { IsTrue result ↔ ContainsText (map lower_image self.now)
+            (map lower_image (text_of text.entry)) }
+    {
+        self.find(text).is_some()
+    }
+}
+
+impl AnyFinder for FinderIgnoringCase<'_> {
+    ghost use Rattle.std.proofs.lemmas.List.{length-map, map-append};
+
+    ghost wanted = { map lower_image };
+
+    ghost image = { map lower_image };
+
+    #[inline(always)]
+    fn first_in(&self, text: AsciiStr<'_>) -> Option<usize> {
+        self.find(text)
+    }
+
+    #[inline(always)]
+    fn needle_len(&self) -> usize {
+        self.needle().len()
+    }
+
+    ghost by_codes = { record {
+      joined = map-append lower_image;
+      long = λ text. length-map text lower_image;
+    } };
+}
+
+/// The first line of the part whose body contains the needle, and the part after its ending. If
+/// the needle that is found first goes past the body of its line, the line does not contain it.
+fn first_line_with<'a, F: AnyFinder>(
+    finder: &F,
+    part: Cursor<'a>,
+) -> Option<(LineSpan<'a>, Cursor<'a>)>
+    ensures lines { MatchOption result
+        (lines_with F.image (F.wanted finder.now) (part_in part.entry) ≡ [])
+        (λ cut. lines_with F.image (F.wanted finder.now) (part_in part.entry)
+        ≡ line_in cut.0 ∷ lines_with F.image (F.wanted finder.now) (part_in cut.1)) }
+    ensures fits { IfSome result (λ cut. EndFits cut.0.start cut.0.text) }
+{
+    let mut left = part;
+    while let Some(place) = finder.first_in(left.view) {
+        let (line, others) = from_line_at(left, place).first_line()?;
+        let end = left.start + place + finder.needle_len();
+        if end <= line.start + line.text.len() {
+            return Some((line, others));
+        }
+        left = others;
+    }
+    None
 }
 
 /// The part from the start of the line that a position is in.
@@ -141,16 +291,16 @@ fn from_line_at<'a>(part: Cursor<'a>, place: usize) -> Cursor<'a>
     part.from(before.view.len())
 }
 
-/// An iterator over the lines of a view whose body contains the text of a `Finder`, each with its
+/// An iterator over the lines of a view whose body contains the needle of a finder, each with its
 /// start and its ending.
 #[derive(Drop)]
-pub struct LinesWith<'a, 'f> {
+pub struct LinesWith<'a, 'f, F: AnyFinder> {
     // The text that is left to search.
     cursor: Cursor<'a>,
-    finder: &'f Finder<'f>,
+    finder: &'f F,
 }
 
-impl<'a, 'f> Model for LinesWith<'a, 'f> {
+impl<'a, 'f, F: AnyFinder> Model for LinesWith<'a, 'f, F> {
     ghost use Rattle.std.specs.Prelude.{List};
     ghost use Rattle.ascii.specs.Found.{lines_with, part_in};
     ghost use Rattle.ascii.specs.Lines.{Line};
@@ -158,10 +308,11 @@ impl<'a, 'f> Model for LinesWith<'a, 'f> {
 
     ghost Value = { List (WithStart Line) };
 
-    ghost view = { λ lines. lines_with lines.finder.now (part_in lines.cursor) };
+    ghost view = { λ lines.
+        lines_with F.image (F.wanted lines.finder.now) (part_in lines.cursor) };
 }
 
-impl Clone for LinesWith<'_, '_> {
+impl<F: AnyFinder> Clone for LinesWith<'_, '_, F> {
     ghost is_clone = { λ lines copy. copy ≡ lines };
 
     ghost is_infallible = { λ _. ⊤ };
@@ -179,7 +330,7 @@ impl Clone for LinesWith<'_, '_> {
     }
 }
 
-impl<'a> Iterator for LinesWith<'a, '_> {
+impl<'a, F: AnyFinder> Iterator for LinesWith<'a, '_, F> {
     type Item = LineSpan<'a>;
 
     ghost next_gives = { YieldsFirstAnd line_in (λ lines. lines) DropsFirstSpan };
@@ -195,7 +346,7 @@ impl<'a> Iterator for LinesWith<'a, '_> {
     ///     lines.next() // None
     #[inline]
     fn next(&mut self) -> Option<LineSpan<'a>> {
-        let Some((first, others)) = self.finder.first_line(self.cursor) else {
+        let Some((first, others)) = first_line_with(self.finder, self.cursor) else {
             // Nothing is left, so that a further call has nothing to search.
             self.cursor = self.cursor.from(self.cursor.view.len());
             return None;
@@ -205,13 +356,13 @@ impl<'a> Iterator for LinesWith<'a, '_> {
     }
 }
 
-impl FusedIterator for LinesWith<'_, '_> {}
+impl<F: AnyFinder> FusedIterator for LinesWith<'_, '_, F> {}
 
 impl<'a> AsciiStr<'a> {
     /// Returns an iterator over the lines of the view whose body contains the needle of `finder`,
-    /// each with its ending and the position in the view at which it starts. The lines are those of
-    /// `line_spans`. No body contains an LF, so a needle with an LF is in none of them; an empty
-    /// needle is in each.
+    /// each with its ending and the position in the view at which it starts. With a
+    /// `FinderIgnoringCase`, ASCII case is ignored. The lines are those of `line_spans`. No body
+    /// contains an LF, so a needle with an LF is in none of them; an empty needle is in each.
     ///
     /// Constant time; a full walk searches the view once, and not line by line. If the needle is in
     /// most lines, a loop over `line_spans` that asks `is_in` is faster.
@@ -221,9 +372,12 @@ impl<'a> AsciiStr<'a> {
     ///     lines.next() // Some(LineSpan { start: 2, text: "ab", ending: CrLf })
     ///     lines.next() // Some(LineSpan { start: 6, text: "b", ending: Absent })
     ///     lines.next() // None
-    pub fn lines_with<'f>(self, finder: &'f Finder<'_>) -> LinesWith<'a, 'f>
-        ensures lines { OfLineSpans self.entry (λ lines.
-            Filters (λ line. ContainsText finder.now line.item.body) lines result) }
+    ///     let finder = FinderIgnoringCase::new(AsciiStr::literal("b"));
+    ///     AsciiStr::literal("a\nAB\nb").lines_with(&finder).count() // 2
+    pub fn lines_with<'f, F: AnyFinder>(self, finder: &'f F) -> LinesWith<'a, 'f, F>
+        ensures lines { OfLineSpans self.entry (λ lines. Filters
+            (λ line. ContainsText (F.wanted finder.now) (F.image line.item.body)) lines result) }
+        ensures placed { ArePlacedLines 0 (text_of self.entry) result }
         ensures fits { length result < 2 ^ 64 }
         ensures loops { LoopsOverLineSpans }
     {

@@ -13,7 +13,7 @@
 //! | characters, pieces, lines or words, by a double-ended iterator | `chars`, `split`, `lines`, `split_whitespace` of a view |
 //! | the positions of pieces, lines or words | `split_spans`, `line_spans`, `spans()` of the iterator of words |
 //! | to search for a text, a character or a class | `find`, `position`, `span::<C>()` of a view |
-//! | to search many texts for one; the lines that contain it | `Finder`; `lines_with` of a view |
+//! | to search many texts for one; the lines that contain it | `Finder`, `FinderIgnoringCase`; `lines_with` of a view |
 //! | a quoted text at the start of a view | `take_quoted` |
 //! | a view in escapes or in caret notation; escapes read back | `escape_ascii`, `caret`; `unescape` |
 //! | a part that keeps its position; a line and a column | `Spanned` of the module `spanned`; `line_and_column` |
@@ -70,6 +70,6 @@ pub use ascii_str_mut::AsciiStrMut;
 pub use ascii_string::{AsciiString, Text};
 pub use boxed::{BoxedAsciiStr, CowAsciiStr, Kept, RcAsciiStr};
 pub use buffer::{Buffer, CloneBuffer, InlineBuffer, NewBuffer};
-pub use finder::Finder;
+pub use finder::{AnyFinder, Finder, FinderIgnoringCase};
 pub use from_ascii::{CopyError, FromAsciiError};
 pub use iter::{Chars, CharsRef};
