@@ -2,9 +2,9 @@
 use Rattle.std.proofs.Common.{◌≡◌, ◌∙◌, ℕ, zero, suc, ◌-◌, ◌<◌, ◌≤◌, Bool, true, false, List, []}
 use Rattle.std.proofs.Common.{◌∷◌, Equal, Greater, IfErr, IfOk, Less, None}
 use Rattle.std.proofs.Common.{Ordering, Result, Some, ⊎_elim, ap, arith, get_or}
-use Rattle.std.proofs.Common.{is_eq, is_lt, is_some, length, map, refl, set, sym}
+use Rattle.std.proofs.Common.{IsSome, is_eq, is_lt, is_some, length, map, refl, set, sym}
 use Rattle.std.proofs.Math.Seq.{map-set_same}
-use Rattle.std.proofs.lemmas.Bool.{cases_Bool, cases_lt, cond-false, cond-true}
+use Rattle.std.proofs.lemmas.Bool.{cases_Bool, cases_lt, cond-false, cond-true, false≢true}
 use Rattle.std.proofs.lemmas.Cmp.{alike_right, eq_by_cmp_equiv, nat_list_cmp_total, on_total}
 use Rattle.std.proofs.lemmas.Cmp.{tied_itself}
 use Rattle.std.proofs.lemmas.Grind.{common_steps}
@@ -247,6 +247,9 @@ module _ {V : Type 0} (entries : Entries V) (key : List ℕ) (place : ℕ)
 
   pub no_value : folded_value_at entries key ≡ None
   no_value = lookup-none (same_folded key) entries (absent key (same_laws.refl key))
+
+  pub not_there : ¬ (IsSome (folded_value_at entries key))
+  not_there some = false≢true (rw no_value at some)
 
   -- without a value at the key, nothing changes if it is removed
   pub remove_absent : entries ≡ remove_entry (same_folded key) entries

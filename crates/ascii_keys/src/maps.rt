@@ -155,7 +155,7 @@ impl<V> Model for FoldedMap<V> {
 }
 
 impl<V: Drop> FoldedMap<V> {
-    ghost use Rattle.std.specs.Prelude.{[], ◌<◌, IfErr, All, length};
+    ghost use Rattle.std.specs.Prelude.{[], ◌<◌, IfErr, IsOk, IsSome, All, length};
     ghost use Rattle.std.specs.Borrow.{sem};
     ghost use Rattle.std.specs.Map.{remove_entry};
     ghost use Rattle.std.specs.Option.{unwrap_or};
@@ -191,7 +191,7 @@ impl<V: Drop> FoldedMap<V> {
     /// Puts a value at `key`, ignoring ASCII case, and returns the one that was there. Fails only
     /// if an allocation fails; the map is then unchanged, and the value is dropped.
     ///
-    /// Copies the key, unless it is there: then it stays as it was first written.
+    /// Copies the key, unless it is there: then it stays as it was first written, and no call fails.
     ///
     ///     let mut headers = FoldedMap::new(alloc);
     ///     headers.insert(AsciiStr::literal("Host"), 1)? // None
@@ -204,6 +204,7 @@ impl<V: Drop> FoldedMap<V> {
         ensures size { IfOk result (λ before.
             length self.new ≡ length self.old + (if is_some before then 0 else 1)) }
         ensures keys { OnOk result (HasKeys self.old (text_of key.entry) self.new) }
+        ensures there { IsSome (folded_value_at self.old (text_of key.entry)) → IsOk result }
         ensures unchanged { OnErr result (self.new ≡ self.old) }
     {
         match self.place_of(key) {
@@ -219,7 +220,7 @@ impl<V: Drop> FoldedMap<V> {
     /// Returns a mutable reference to the value at `key`, ignoring ASCII case. If there is none,
     /// puts `default` there first. Fails only if an allocation fails; the map is then unchanged.
     ///
-    /// If the key is there, nothing is copied or allocated. Otherwise copies the key.
+    /// If the key is there, nothing is copied or allocated, and no call fails. Otherwise copies the key.
     ///
     ///     let mut counts = FoldedMap::new(alloc);
     ///     *counts.get_or_insert(AsciiStr::literal("The"), 0)? += 1;
@@ -230,6 +231,7 @@ impl<V: Drop> FoldedMap<V> {
         ensures* writes_back { sem 𝓛 (lends_put V.row self.entry (text_of key.entry) result) }
         ensures value { IfOk result (λ value.
             value.now ≡ unwrap_or (folded_value_at self.old (text_of key.entry)) default) }
+        ensures there { IsSome (folded_value_at self.old (text_of key.entry)) → IsOk result }
     {
         let place = self.put_if_absent(key, default)?;
         Ok(&mut self.entries[place].1)
@@ -240,6 +242,7 @@ impl<V: Drop> FoldedMap<V> {
         ensures put { IfOk result (λ place. IsPlaceOf self.new (text_of key.entry) place
             × Puts self.old (text_of key.entry)
             (unwrap_or (folded_value_at self.old (text_of key.entry)) default) self.new) }
+        ensures there { IsSome (folded_value_at self.old (text_of key.entry)) → IsOk result }
         ensures unchanged { OnErr result (self.new ≡ self.old) }
     {
         match self.place_of(key) {

@@ -26,5 +26,6 @@ returns g c =
         writes_back = tt;
         value = value_put entries c.self.invariant key c.in_ok-place.place is
             c.index_mut.result.now c.index_mut.ensures.value old _ puts;
+        there = λ _. refl;
       },
     )

@@ -1,7 +1,8 @@
 use Rattle.std.proofs.Common.{sym, arith}
 use Rattle.ascii.specs.View.{text_of}
 use Rattle.ascii_keys.proofs.FoldedMapLemmas.{insert_in_order, insert_there, keys_inserted}
-use Rattle.ascii_keys.proofs.FoldedMapLemmas.{keys_there, no_value, set_there, value_there}
+use Rattle.ascii_keys.proofs.FoldedMapLemmas.{keys_there, no_value, not_there, set_there}
+use Rattle.ascii_keys.proofs.FoldedMapLemmas.{value_there}
 use Rattle.ascii_keys.proofs.maps.FoldedMap.insert.Goals as goal
 
 pub invariant_of-self-in-Err : goal.invariant_of-self-in-Err
@@ -35,3 +36,11 @@ returns-in_ok-insert-in-Err-clause-keys over c =
       c.self.view_is,
     ) (keys_inserted
     c.args.self.now (text_of c.args.key) c.in-Err.place c.in-Err.ensures.absent c.args.value)
+
+pub returns-in_err-key-in-Err-clause-there : goal.returns-in_err-key-in-Err-clause-there
+returns-in_err-key-in-Err-clause-there over c = λ some. absurd
+    (not_there c.args.self.now (text_of c.args.key) _ c.in-Err.ensures.absent some)
+
+pub returns-in_err-insert-in-Err-clause-there : goal.returns-in_err-insert-in-Err-clause-there
+returns-in_err-insert-in-Err-clause-there over c = λ some. absurd
+    (not_there c.args.self.now (text_of c.args.key) _ c.in-Err.ensures.absent some)

@@ -1,6 +1,6 @@
 use Rattle.ascii.specs.View.{text_of}
 use Rattle.ascii_keys.proofs.FoldedMapLemmas.{insert_in_order, place_inserted, put_inserted}
-use Rattle.ascii_keys.proofs.FoldedMapLemmas.{put_same}
+use Rattle.ascii_keys.proofs.FoldedMapLemmas.{not_there, put_same}
 use Rattle.ascii_keys.proofs.maps.FoldedMap.put_if_absent.Goals as goal
 
 pub invariant_of-self-in-Err : goal.invariant_of-self-in-Err
@@ -31,3 +31,11 @@ returns-in_ok-insert-in-Err-clause-put g c =
       place_inserted old key c.in-Err.place absent c.args.default,
       put_inserted old key c.in-Err.place absent c.args.default,
     )
+
+pub returns-in_err-key-in-Err-clause-there : goal.returns-in_err-key-in-Err-clause-there
+returns-in_err-key-in-Err-clause-there g c = λ some. absurd
+    (not_there c.args.self.now (text_of c.args.key) _ c.in-Err.ensures.absent some)
+
+pub returns-in_err-insert-in-Err-clause-there : goal.returns-in_err-insert-in-Err-clause-there
+returns-in_err-insert-in-Err-clause-there g c = λ some. absurd
+    (not_there c.args.self.now (text_of c.args.key) _ c.in-Err.ensures.absent some)
