@@ -197,7 +197,7 @@ calls! {
     fn ask_repeated(times: usize, source: &[u8]);
     fn ask_padded(form: u8, code: u8, width: usize, source: &[u8], piece: &[u8]);
     fn ask_range_edits(form: u8, start: usize, end: usize, source: &[u8], piece: &[u8]);
-    fn ask_spanned(source: &[u8], texts: &[u8], steps: &[Step]);
+    fn ask_parts(source: &[u8], texts: &[u8], steps: &[Step]);
     fn ask_place(at: usize, source: &[u8]);
     fn ask_maps(texts: &[u8], steps: &[Step]);
     fn ask_std_maps(source: &[u8], texts: &[u8], steps: &[Step]);

@@ -124,7 +124,7 @@ pub fn ask_unescaped(text: &[u8], expected: Result<impl Put, Escaped>, asked: &m
 pub type Unquoted = Option<usize>;
 
 /// The text between the quotes at the start of a text, and what comes after it.
-fn quoted_in(text: &[u8], quote: u8, escape: u8) -> Result<(&[u8], &[u8]), Unquoted> {
+pub fn quoted_in(text: &[u8], quote: u8, escape: u8) -> Result<(&[u8], &[u8]), Unquoted> {
     if text.first() != Some(&quote) {
         return Err(None);
     }

@@ -1,4 +1,4 @@
-//! Parts of a text with their starts, and lines and columns.
+//! Parts of a text with their places, and lines and columns.
 
 use super::{Row, Rows};
 use crate::calls::{self, Step};
@@ -7,7 +7,7 @@ use crate::kinds::numbers::Fault::{Empty, NotDigit, TooLarge};
 use crate::kinds::places::ask_place;
 
 pub static ROWS: &[Row] = &[
-    ("parts_of_a_part_keep_their_start", parts),
+    ("parts_of_a_part_keep_their_place", parts),
     ("a_number_that_is_too_large_has_its_position", |rows| {
         ask(rows, "x=2560", "", &[(FROM, 0, 2, Some((2, "2560", Err(TooLarge(4)))))])
     }),
@@ -26,22 +26,25 @@ type Taken = (u8, u8, usize, Option<Part>);
 
 /// The kinds of steps.
 const TRIM: u8 = 0;
-const TRIM_START: u8 = 1;
-const TRIM_END: u8 = 2;
-const TRIM_BLANKS: u8 = 3;
-const BEFORE: u8 = 4;
-const AFTER: u8 = 5;
-const FROM: u8 = 7;
-const WITHOUT_PREFIX: u8 = 8;
-const AFTER_DIGITS: u8 = 10;
+const BEFORE: u8 = 1;
+const AFTER: u8 = 2;
+const FROM: u8 = 4;
+const WITHOUT_PREFIX: u8 = 5;
+const AFTER_DIGITS: u8 = 7;
+const QUOTED: u8 = 8;
+const AFTER_QUOTED: u8 = 9;
 
-/// Asks for the parts that steps take, each of the part before it. The texts of the steps are their prefix.
+/// Asks for the parts that steps take, each of the part before it, in a text of one line. The texts of the steps are
+/// their prefix.
 fn ask(rows: &mut Rows, text: &str, prefix: &str, taken: &[Taken]) {
     let step = |(kind, code, at, _): &Taken| Step { kind: *kind, code: *code, at: *at, start: 0, end: prefix.len() };
     let steps: Vec<Step> = taken.iter().map(step).collect();
     rows.ask(|asked| {
-        calls::ask_spanned(asked, text.as_bytes(), prefix.as_bytes(), &steps);
-        let put = |(start, text, number): Part| (start, text, start + text.len(), number);
+        calls::ask_parts(asked, text.as_bytes(), prefix.as_bytes(), &steps);
+        let place = |start: usize, text: &'static str| (start, text, start + text.len());
+        let put = |(start, text, number): Part| {
+            (place(start, text), (text.len(), text.is_empty()), (1usize, start + 1), number)
+        };
         asked.want.all(taken.iter().map(|taken| taken.3.map(put)));
     });
 }
@@ -53,14 +56,12 @@ const LINE: &str = "\tport = 080 # x";
 const SETTING: Taken = (BEFORE, b'#', 0, Some((0, "\tport = 080 ", Err(NotDigit(0)))));
 const VALUE: Taken = (AFTER, b'=', 0, Some((7, " 080 ", Err(NotDigit(7)))));
 const KEY: Taken = (BEFORE, b'=', 0, Some((0, "\tport ", Err(NotDigit(0)))));
-const DIGITS: Taken = (TRIM_BLANKS, 0, 0, Some((8, "080", Ok(80))));
+const DIGITS: Taken = (TRIM, 0, 0, Some((8, "080", Ok(80))));
 
 fn parts(rows: &mut Rows) {
     ask(rows, LINE, "", &[(AFTER, b'#', 0, Some((13, " x", Err(NotDigit(13)))))]);
     for trimmed in [
         (TRIM, 0, 0, Some((1, "port", Err(NotDigit(1))))),
-        (TRIM_START, 0, 0, Some((1, "port ", Err(NotDigit(1))))),
-        (TRIM_END, 0, 0, Some((0, "\tport", Err(NotDigit(0))))),
         (BEFORE, b'=', 0, None),
     ] {
         ask(rows, LINE, "", &[SETTING, KEY, trimmed]);
@@ -75,4 +76,11 @@ fn parts(rows: &mut Rows) {
     }
     ask(rows, LINE, "8", &[SETTING, VALUE, DIGITS, (WITHOUT_PREFIX, 0, 0, None)]);
     ask(rows, LINE, "", &[SETTING, VALUE, (AFTER_DIGITS, 0, 0, Some((7, " 080 ", Err(NotDigit(7)))))]);
+    for of_quotes in [
+        (QUOTED, b'"', 0, Some((3, "b\\\"", Err(NotDigit(3))))),
+        (AFTER_QUOTED, b'"', 0, Some((7, "1", Ok(1)))),
+        (QUOTED, b'b', 0, None),
+    ] {
+        ask(rows, "a=\"b\\\"\"1", "", &[(AFTER, b'=', 0, Some((2, "\"b\\\"\"1", Err(NotDigit(2))))), of_quotes]);
+    }
 }

@@ -16,7 +16,7 @@
 //! | to search many texts for one; the lines that contain it | `Finder`, `FinderIgnoringCase`; `lines_with` of a view |
 //! | a quoted text at the start of a view | `take_quoted` |
 //! | a view in escapes or in caret notation; escapes read back | `escape_ascii`, `caret`; `unescape` |
-//! | a part that keeps its position; a line and a column | `Spanned` of the module `spanned`; `line_and_column` |
+//! | a part that keeps its position; a line and a column | `Part` of the crate `ascii_formats`; `line_and_column` |
 //! | keys that ignore case; a map asked by a view | the crate `ascii_keys` |
 //! | the ASCII runs of bytes that may hold others | `bytes::ascii_chunks` |
 //! | a class of characters of your own | the module `classes` |

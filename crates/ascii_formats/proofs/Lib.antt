@@ -3,7 +3,7 @@ mod Examples
 pub mod NotationsLemmas
 pub mod NumbersLemmas
 pub mod PaddingLemmas
+pub mod PartsLemmas
 pub mod PlaceLemmas
 pub mod QuotesLemmas
-pub mod SpannedLemmas
 pub mod UnescapeLemmas

@@ -1,7 +1,7 @@
 pub mod Decimals
 pub mod Numbers
 pub mod Padding
+pub mod Parts
 pub mod Places
 pub mod Quotes
-pub mod Spanned
 pub mod Unescape

@@ -11,7 +11,7 @@
 //! | a decimal number | `to_decimal` |
 //! | a quoted text at the start of a view | `take_quoted` |
 //! | a view in escapes or in caret notation; escapes read back | `EscapeAscii`, `Caret`; `unescape` |
-//! | a part that keeps its position; a line and a column | `Spanned`; `line_and_column`, `fault_at` |
+//! | a part that keeps its position, for parsers; a line and a column | `Part`; `line_and_column`, `fault_at` |
 //! | to append a number, or a view filled up to a width | `push_decimal`, `push_hex`, `push_padded` |
 //!
 //! In an example, `alloc` is an allocator, and the comment after `//` is the value's `{:?}` output.
@@ -23,9 +23,9 @@ mod line_feeds;
 pub mod notations;
 pub mod numbers;
 mod padding;
+pub mod parts;
 pub mod places;
 pub mod quotes;
-pub mod spanned;
 mod strings;
 pub mod unescape;
 mod views;

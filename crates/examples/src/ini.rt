@@ -2,32 +2,29 @@
 //! comments after `;`. A text that is not a settings file is reported with the place of its first fault.
 #![tactic(auto)]
 
-ghost use Rattle.std.specs.Prelude.{◌≡◌, ℕ, All, IfErr, IfOk, List};
-ghost use Rattle.ascii_formats.specs.Spanned.{LiesIn};
-ghost use Rattle.ascii.specs.View.{text_of};
-ghost use Rattle.examples.specs.Entries.{ArePlacesIn, IsEntryOf, IsFaultOf, SaysFault};
+ghost use Rattle.std.specs.Prelude.{◌≡◌, All, IfErr, IfOk, MatchResult};
+ghost use Rattle.examples.specs.Entries.{ArePartsOf, IsEntryOf, IsErrorIn, IsFaultOf, SaysFault};
 
 use ascii::{AsciiChar, AsciiStr, text};
-use ascii_formats::AsciiStrExt;
-use ascii_formats::spanned::Spanned;
+use ascii_formats::parts::Part;
 use std::alloc::Global;
 use std::io::{self, Read};
 use thiserror::Error;
 
-/// A setting: the section that it is in, its key and its value, each with its start in the text.
+/// A setting: the section that it is in, its key and its value, each with its place in the text.
 #[derive(Clone, Copy)]
 pub struct Entry<'a> {
-    pub section: Spanned<'a>,
-    pub key: Spanned<'a>,
-    pub value: Spanned<'a>,
+    pub section: Part<'a>,
+    pub key: Part<'a>,
+    pub value: Part<'a>,
 }
 
 /// What a line says.
 #[derive(Clone, Copy)]
 pub enum Parsed<'a> {
     Blank,
-    Section(Spanned<'a>),
-    Setting(Spanned<'a>, Spanned<'a>),
+    Section(Part<'a>),
+    Setting(Part<'a>, Part<'a>),
 }
 
 /// What is wrong with a line.
@@ -41,19 +38,20 @@ pub enum What {
     NoKey,
 }
 
-/// Why a text was rejected: the position in the text and what is wrong there, or a lack of memory.
+/// Why a text was rejected: the part at fault and what is wrong at its start, or a lack of memory.
 #[derive(Clone, Copy)]
-pub enum IniError {
-    At(usize, What),
+pub enum IniError<'a> {
+    At(Part<'a>, What),
     Memory,
 }
 
-/// Returns the entries of a text, in order. Each part is where it says.
-pub fn read_entries<'a>(alloc: Global, text: AsciiStr<'a>) -> Result<Vec<Entry<'a>>, IniError>
-    ensures { IfOk result (λ entries. All (IsEntryOf (text_of text.entry)) entries.items) }
+/// Returns the entries of a text, in order, or the part of the text that is at fault.
+pub fn read_entries<'a>(alloc: Global, text: AsciiStr<'a>) -> Result<Vec<Entry<'a>>, IniError<'a>>
+    ensures { MatchResult result (λ entries. All (IsEntryOf text.entry) entries.items)
+        (IsErrorIn text.entry) }
 {
     let mut entries = Vec::new(alloc);
-    let mut rest = Spanned::whole(text);
+    let mut rest = Part::of(text);
     let (mut section, _) = rest.split_at(0);
     'lines: while let Some((line, after)) = rest.split_once(AsciiChar::LineFeed) {
         section = add_line(&mut entries, section, line)?;
@@ -66,12 +64,14 @@ pub fn read_entries<'a>(alloc: Global, text: AsciiStr<'a>) -> Result<Vec<Entry<'
 /// Appends the entry of a line, if it has one, and returns the section after it.
 fn add_line<'a>(
     entries: &mut Vec<Entry<'a>>,
-    section: Spanned<'a>,
-    line: Spanned<'a>,
-) -> Result<Spanned<'a>, IniError>
-    ensures { (whole : List ℕ) → LiesIn whole section.entry → LiesIn whole line.entry
-        → All (IsEntryOf whole) entries.old.items → IfOk result (λ section.
-        LiesIn whole section × All (IsEntryOf whole) entries.new.items) }
+    section: Part<'a>,
+    line: Part<'a>,
+) -> Result<Part<'a>, IniError<'a>>
+    requires whole { section.whole ≡ line.whole }
+    requires entries { All (IsEntryOf line.whole) entries.old.items }
+    ensures { let whole = line.entry.whole in MatchResult result
+        (λ next. (next.whole ≡ whole) × All (IsEntryOf whole) entries.new.items)
+        (IsErrorIn whole) }
 {
     match read_line(line)? {
         Parsed::Blank => Ok(section),
@@ -91,35 +91,34 @@ fn add_line<'a>(
 }
 
 /// Returns what a line says, with the places of its parts.
-fn read_line<'a>(line: Spanned<'a>) -> Result<Parsed<'a>, IniError>
-    ensures places { (whole : List ℕ) → LiesIn whole line.entry
-        → IfOk result (ArePlacesIn whole) }
+fn read_line<'a>(line: Part<'a>) -> Result<Parsed<'a>, IniError<'a>>
+    ensures parts { MatchResult result (ArePartsOf line.entry.whole)
+        (IsErrorIn line.entry.whole) }
     ensures fault { SaysFault line.entry result }
 {
     read_body(line.trim())
 }
 
 /// Returns what a line without whitespace at its ends says.
-fn read_body<'a>(body: Spanned<'a>) -> Result<Parsed<'a>, IniError>
-    ensures places { (whole : List ℕ) → LiesIn whole body.entry
-        → IfOk result (ArePlacesIn whole) }
+fn read_body<'a>(body: Part<'a>) -> Result<Parsed<'a>, IniError<'a>>
+    ensures parts { IfOk result (ArePartsOf body.entry.whole) }
     ensures fault { IfErr result (IsFaultOf body.entry) }
 {
-    if body.text.is_empty() || body.text.starts_with(AsciiStr::literal(";")) {
+    if body.is_empty() || body.text().starts_with(AsciiStr::literal(";")) {
         return Ok(Parsed::Blank);
     }
     if let Some(rest) = body.strip_prefix(AsciiStr::literal("[")) {
         return match rest.split_once(AsciiChar::BracketClose) {
-            Some((name, after)) if after.text.is_empty() => Ok(Parsed::Section(name)),
-            _ => Err(IniError::At(body.start, What::OpenSection)),
+            Some((name, after)) if after.is_empty() => Ok(Parsed::Section(name)),
+            _ => Err(IniError::At(body, What::OpenSection)),
         };
     }
     let Some((key, value)) = body.split_once(AsciiChar::Equal) else {
-        return Err(IniError::At(body.start, What::NoEquals));
+        return Err(IniError::At(body, What::NoEquals));
     };
     let key = key.trim();
-    if key.text.is_empty() {
-        return Err(IniError::At(body.start, What::NoKey));
+    if key.is_empty() {
+        return Err(IniError::At(body, What::NoKey));
     }
     Ok(Parsed::Setting(key, value.trim()))
 }
@@ -134,17 +133,22 @@ pub fn main(rt: HostRuntime) -> io::Result<()> {
     match read_entries(rt.alloc(), view) {
         Ok(entries) => {
             for entry in entries.iter() {
-                let place = view.line_and_column(entry.value.start.min(view.len()));
+                let Entry {
+                    section,
+                    key,
+                    value,
+                } = entry;
                 println!(rt;
-                    "{place}: [{}] {} = {}",
-                    entry.section.text, entry.key.text, entry.value.text
+                    "{}: [{}] {} = {}",
+                    value.line_and_column(),
+                    section.text(),
+                    key.text(),
+                    value.text()
                 )?;
             }
             Ok(())
         }
-        Err(IniError::At(start, what)) => {
-            println!(rt; "{}", view.fault_at(start.min(view.len()), what))
-        }
+        Err(IniError::At(part, what)) => println!(rt; "{}", part.fault(what)),
         Err(IniError::Memory) => println!(rt; "no memory"),
     }
 }

@@ -1,66 +1,85 @@
-//! Parts of a text with their starts, and lines and columns of positions.
+//! Parts of a text with their places, and lines and columns of positions.
 
 use crate::answer::{Answer, NOTHING, Put};
 use crate::steps::Step;
-use ascii::classes::{Blank, Digit};
+use ascii::classes::Digit;
 use ascii::{AsciiChar, AsciiStr};
 use ascii_formats::AsciiStrExt;
-use ascii_formats::spanned::Spanned;
+use ascii_formats::parts::Part;
+use ascii_formats::quotes::QuoteError;
 use std::alloc::Global;
 
-/// The parts that steps take of a text, each of the part before it, with their starts, their ends and the numbers that
-/// they write.
-pub fn ask_spanned(source: AsciiStr, texts: AsciiStr, steps: &[Step], answer: &mut Answer) {
-    let mut part = Spanned::whole(source);
+/// The parts that steps take of a text, each of the part before it, with their places, also for people, and the
+/// numbers that they write; or what is put in place of a part that is not there.
+pub fn ask_parts(source: AsciiStr, texts: AsciiStr, steps: &[Step], answer: &mut Answer) {
+    let mut part = Part::of(source);
     for step in steps {
         match part_by(part, *step, texts) {
-            Some(next) => {
+            Ok(next) => {
                 part = next;
                 answer.put(part);
             }
-            None => answer.put(NOTHING),
+            Err(position) => answer.put(position),
         }
     }
 }
 
-impl Put for Spanned<'_> {
+impl Put for Part<'_> {
     fn put(self, answer: &mut Answer) {
-        answer.put((self.start, self.text, self.end()));
+        answer.put((self.start, self.text(), self.end));
+        answer.put((self.len(), self.is_empty()));
+        let place = self.line_and_column();
+        answer.put((place.line, place.column));
         answer.put(self.to_number::<u8>());
     }
 }
 
 /// The part that a step takes. The kind of a step is the index of its call here.
-fn part_by<'a>(part: Spanned<'a>, step: Step, texts: AsciiStr) -> Option<Spanned<'a>> {
+fn part_by<'a>(part: Part<'a>, step: Step, texts: AsciiStr) -> Result<Part<'a>, Option<usize>> {
     let ch = AsciiChar::from_ascii(step.code).ok().unwrap_or_default();
     match step.kind {
-        0 => Some(part.trim()),
-        1 => Some(part.trim_start()),
-        2 => Some(part.trim_end()),
-        3 => Some(part.trim_matches::<Blank>()),
-        4 => Some(part.split_once(ch)?.0),
-        5 => Some(part.split_once(ch)?.1),
-        6 => Some(part_at(part, step.at)?.0),
-        7 => Some(part_at(part, step.at)?.1),
-        8 => part.strip_prefix(step.text(texts)),
-        9 => Some(part.span::<Digit>().0),
-        _ => Some(part.span::<Digit>().1),
+        0 => Ok(part.trim()),
+        1 => Ok(part.split_once(ch).ok_or(NOTHING)?.0),
+        2 => Ok(part.split_once(ch).ok_or(NOTHING)?.1),
+        3 => Ok(part_at(part, step.at).ok_or(NOTHING)?.0),
+        4 => Ok(part_at(part, step.at).ok_or(NOTHING)?.1),
+        5 => part.strip_prefix(step.text(texts)).ok_or(NOTHING),
+        6 => Ok(part.span::<Digit>().0),
+        7 => Ok(part.span::<Digit>().1),
+        8 => Ok(quoted_part(part, ch)?.0),
+        _ => Ok(quoted_part(part, ch)?.1),
     }
 }
 
-fn part_at<'a>(part: Spanned<'a>, at: usize) -> Option<(Spanned<'a>, Spanned<'a>)> {
-    if at <= part.text.len() {
+fn part_at<'a>(part: Part<'a>, at: usize) -> Option<(Part<'a>, Part<'a>)> {
+    if at <= part.len() {
         return Some(part.split_at(at));
     }
     None
 }
 
-/// The line and the column of a position in a text, and what prints them with what is wrong there.
+/// What is between quotes at the start of a part, and what comes after it; or the position at which nothing closes it.
+fn quoted_part<'a>(
+    part: Part<'a>,
+    quote: AsciiChar,
+) -> Result<(Part<'a>, Part<'a>), Option<usize>> {
+    match part.quoted(quote, AsciiChar::BackSlash) {
+        Ok(taken) => Ok(taken),
+        Err(QuoteError::NoQuote) => Err(NOTHING),
+        Err(QuoteError::NotClosed(position)) => Err(Some(position)),
+    }
+}
+
+/// The line and the column of a position in a text, what prints them with what is wrong there, and the same of the part
+/// from the position on.
 pub fn ask_place(alloc: Global, at: usize, source: AsciiStr, answer: &mut Answer) {
     if at <= source.len() {
         let place = source.line_and_column(at);
         answer.put((place.line, place.column));
         let fault = source.fault_at(at, "no '='");
         answer.put_result(format!(in alloc; "{fault}"));
+        let (_before, part) = Part::of(source).split_at(at);
+        let fault = part.fault("no '='");
+        answer.put_result(format!(in alloc; "{part:?} {fault}"));
     }
 }

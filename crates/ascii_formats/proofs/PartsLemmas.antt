@@ -1,0 +1,89 @@
+-- The text between two positions of a text, and what it starts and ends with.
+use Rattle.std.proofs.Common.{◌≡◌, ◌≤◌, ◌↔◌, ℕ, ◌+◌, ◌-◌, List, [], ◌++◌, length, drop, arith, ap}
+use Rattle.std.proofs.Common.{◌∙◌, append_assoc, drop-drop, length-append, length-drop, subst}
+use Rattle.std.specs.List.{slice_range}
+use Rattle.std.proofs.lemmas.List.{length-take, length-take-le, take_all}
+use Rattle.std.proofs.lemmas.List.Folds.{drop_split}
+use Rattle.std.proofs.Math.Seq.{drop-append_seam}
+use Rattle.ascii.specs.Placed.{HasAt}
+use Rattle.ascii.specs.Search.{EndsWith, StartsWith}
+use Rattle.ascii.specs.View.{text_of}
+use Rattle.ascii.proofs.CutLemmas.{suffix_fits}
+use Rattle.ascii.proofs.PlacedLemmas.{has_at}
+use Rattle.ascii_formats.specs.declared.parts.Part.{Part}
+use Rattle.ascii_formats.specs.Parts.{part_text}
+
+-- all of a text
+pub whole_range : (text : List ℕ) → slice_range text 0 (length text) ≡ text
+whole_range text = grind (arith, take_all)
+
+-- the length of the text between two positions
+pub length_range : (text : List ℕ) (start end : ℕ) → start ≤ end → end ≤ length text
+    → length (slice_range text start end) ≡ end - start
+length_range text start end low high = grind (arith, length-take-le, length-drop)
+
+-- it is empty exactly if the positions are the same
+pub empty_range : (text : List ℕ) (start end : ℕ) → start ≤ end → end ≤ length text
+    → (slice_range text start end ≡ []) ↔ (start ≡ end)
+empty_range text start end low high = (
+  λ none. omega (arith, length_range text start end low high, ap length none),
+  λ same. rw same (grind arith),
+)
+
+-- what it starts with
+pub front_range : (text front : List ℕ) (start end : ℕ) → start ≤ end → end ≤ length text
+    → StartsWith front (slice_range text start end)
+    → slice_range text start (start + length front) ≡ front
+front_range text front start end low high starts =
+    has_at text front (starts.0 ++ drop end text) start (grind (arith, append_assoc, drop_split))
+
+-- a part is as long as its positions say
+pub part_length : (part : Part) → part.start + length (part_text part) ≡ part.end
+unfolding part_text
+part_length part = omega (
+  arith,
+  length_range (text_of part.whole) part.start part.end part.fits.0 part.fits.1,
+)
+
+-- where the sides of a cut of a part meet
+pub ruleset part_lengths = (part_length, length-append, length-take, length-drop)
+
+-- what a part ends with is not longer
+pub rest_fits : (part : Part) (rest : List ℕ) → EndsWith rest (part_text part)
+    → part.start + length rest ≤ part.end
+rest_fits part rest ends = omega (arith, part_length part, suffix_fits rest (part_text part) ends)
+
+-- a part ends with what its whole has there
+pub rest_range : (part : Part) (rest : List ℕ) → EndsWith rest (part_text part)
+    → slice_range (text_of part.whole) (part.end - length rest) part.end ≡ rest
+unfolding part_text
+rest_range part rest ends =
+    let text = text_of part.whole in
+    let from = part.start + length ends.0 in
+    let to : from + length rest ≡ part.end = omega (
+      arith,
+      length_range text part.start part.end part.fits.0 part.fits.1,
+      ap length ends.1,
+      length-append ends.0 rest,
+    ) in
+    let others : drop from text ≡ rest ++ drop part.end text = grind (
+      arith,
+      append_assoc,
+      drop_split,
+      drop-append_seam ends.0 (rest ++ drop part.end text),
+      drop-drop (length ends.0) part.start text,
+    ) in
+    let at : part.end - length rest ≡ from = omega arith in
+    rw at (subst (λ e. slice_range text from e ≡ rest) to
+    (has_at text rest (drop part.end text) from others))
+
+-- a part is what its whole has at its start
+pub part_is_at : (part : Part) → HasAt (text_of part.whole) part.start (part_text part)
+unfolding part_text
+part_is_at part = grind (arith, length_range (text_of part.whole) part.start part.end)
+
+-- a text ends with what comes after a cut of it
+pub after_cut : (before between after text : List ℕ) → before ++ (between ++ after) ≡ text
+    → EndsWith after text
+after_cut before between after text joined =
+    (before ++ between, append_assoc before between after ∙ joined)
