@@ -227,7 +227,7 @@ FILTER = [
     Call("an output that is full", ["copy", "text", "none"], b"", 3, b"", FULL, "full"),
 ]
 
-OF_EXAMPLES = b"usage: examples events|head|host|ini|keys|lines|nmea|pager|register|tally\n"
+OF_EXAMPLES = b"usage: examples events|head|host|ini|keys|lines|nmea|pager|register|syslog|tally|tokens\n"
 LINES_OF_A_REGISTER = b"GET\nhello\r\nGET\nno\377ascii\nGET\nQUIT\nGET\n"
 REPLIES_OF_A_REGISTER = b"\nOK\nhello\nBAD\nhello\nBYE\n"
 HEAD = b"GET /a?b HTTP/1.1\r\nHost: a.example\r\nACCEPT:  */* \r\n\r\nbody"
@@ -243,6 +243,34 @@ not a GGA sentence
 payload 0abc
 """
 TEXT = b"TWO\none\nTwo and three\nthe two lines that are longer than one row\nend\n"
+LOG = b"""<165>1 2003-10-11T22:14:15.003Z mymachine.example.com evntslog - ID47 [exampleSDID@32473 iut="3" \
+eventSource="Application"][b x="a\\"b"] An application event
+<34>1 - host su 1 m -
+<192>1 - h a p m -
+<1>1 - h a p m -x
+<0>1 - - - - - [a b="]
+"""
+MESSAGES = b"""165 2003-10-11T22:14:15.003Z mymachine.example.com evntslog: An application event
+- exampleSDID@32473
+  iut: 3
+  eventSource: Application
+- b
+  x: a\\"b
+34 - host su:
+column 2: not a number that may be here
+column 17: another character belongs here
+column 21: not a quoted value
+"""
+TOKENS = b"""1:1: Word let
+1:5: Word x_1
+1:9: Mark =
+1:12: Quoted a\\"b
+1:18: Mark +
+1:20: Number 42
+1:22: Mark ;
+1:25: Comment  done
+2:2: Word y
+"""
 STORED = [(TOP / "crates/examples" / name).read_bytes() for name in ("stdin", "stdout")]
 EXAMPLES = [
     Call("head", ["head"], HEAD, 0, b"GET /a?b 1.1\nhost a.example\n"),
@@ -259,9 +287,14 @@ EXAMPLES = [
     Call("register", ["register"], LINES_OF_A_REGISTER, 0, REPLIES_OF_A_REGISTER, b"Closed\n"),
     Call("events", ["events"], LINES_OF_A_REGISTER, 0, REPLIES_OF_A_REGISTER, b"Some(Closed)\n"),
     Call("events to the end of the input", ["events"], b"a\nGET", 0, b"OK\na\n", b"Some(EndOfInput)\n"),
+    Call("syslog", ["syslog"], LOG, 0, MESSAGES),
+    Call("syslog of no line", ["syslog"], b"", 0, b""),
     Call("tally", ["tally"], b"To be, or not\tto BE,\n[to] TO\n", 0, b"1 [to]\n2 be,\n1 not\n1 or\n3 to\n"),
     Call("tally of no word", ["tally"], b" \n", 0, b""),
     Call("tally of a byte above 127", ["tally"], b"z\303\244\n", 0, b"the byte at index 1 is not ASCII\n"),
+    Call("tokens", ["tokens"], b'let x_1 = "a\\"b" + 42; # done\n\ty\n', 0, TOKENS),
+    Call("tokens of a text that is not closed", ["tokens"], b'a\n  "b\\"', 0, b"2:3: the text that begins here is not closed\n"),
+    Call("tokens of a control character", ["tokens"], b"a\n\1", 0, b"2:1: no token begins with this character\n"),
     Call("an input that is not valid UTF-8", ["host"], b"\377\n", 1, b"", ANY),
     Call("no name", [], b"", 64, b"", OF_EXAMPLES),
     Call("an unknown name", ["key"], b"", 64, b"", OF_EXAMPLES),

@@ -1,7 +1,9 @@
 pub mod Entries
 pub mod Head
+pub mod Log
 pub mod Reading
 pub mod Register
 pub mod Search
 pub mod Sentence
 pub mod Tally
+pub mod Tokens

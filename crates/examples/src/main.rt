@@ -10,7 +10,9 @@ mod lines;
 mod nmea;
 mod pager;
 mod register;
+mod syslog;
 mod tally;
+mod tokens;
 
 use std::env::Env;
 use std::io;
@@ -30,10 +32,12 @@ fn main(rt: HostRuntime) -> io::Result<ExitCode> {
         b"nmea" => nmea::main(rt)?,
         b"pager" => pager::main(rt)?,
         b"register" => register::main(rt)?,
+        b"syslog" => syslog::main(rt)?,
         b"tally" => tally::main(rt)?,
+        b"tokens" => tokens::main(rt)?,
         _ => {
             eprintln!(rt;
-                "usage: examples events|head|host|ini|keys|lines|nmea|pager|register|tally"
+                "usage: examples events|head|host|ini|keys|lines|nmea|pager|register|syslog|tally|tokens"
             )?;
             return Ok(ExitCode::from(64));
         }

@@ -1,0 +1,93 @@
+-- Messages of a log in the form of RFC 5424.
+use Rattle.std.specs.Prelude.{ℕ, ◌≡◌, ◌≢◌, ◌≤◌, ◌⊎◌, ◌^◌, ◌-◌, ◌++◌, ◌∷◌, [], List, ⊤}
+use Rattle.std.specs.Prelude.{codes, length}
+use Rattle.std.specs.Int.{IsInRange}
+use Rattle.std.specs.List.{All, flat_map}
+use Rattle.ascii.specs.Class.{IsGraphic}
+use Rattle.ascii.specs.Search.{StartsWith}
+use Rattle.ascii.specs.declared.ascii_str.AsciiStr.{AsciiStr}
+use Rattle.ascii_formats.specs.Numbers.{WritesNumber}
+use Rattle.ascii_formats.specs.Parts.{part_text}
+use Rattle.ascii_formats.specs.Quotes.{Quotable}
+use Rattle.ascii_formats.specs.declared.parts.Part.{Part}
+use Rattle.examples.specs.declared.syslog.Element.{Element}
+use Rattle.examples.specs.declared.syslog.LogError.{LogError}
+use Rattle.examples.specs.declared.syslog.LogError.TheVariants.{At, Memory}
+use Rattle.examples.specs.declared.syslog.Message.{Message}
+use Rattle.examples.specs.declared.syslog.Number.{Number}
+use Rattle.examples.specs.declared.syslog.Param.{Param}
+
+-- a code that a name may contain: a visible one other than `"`, `=` and `]`
+abbrev pub IsNameCode : ℕ → Type 0
+IsNameCode code = (code ≡ 33) ⊎ IsInRange 35 60 code ⊎ IsInRange 62 92 code ⊎ IsInRange 94 126 code
+
+-- `number` is up to three digits that write a number of at most `most`
+pub record IsNumber (most : ℕ) (number : Number) : Type 0 where
+  pub digits : WritesNumber (2 ^ 16 - 1) (part_text number.digits) number.value
+  pub short : length (part_text number.digits) ≤ 3
+  pub low : number.value ≤ most
+
+-- `part` is up to `most` codes of the class `Is`, and one at least
+pub record IsField (Is : ℕ → Type 0) (most : ℕ) (part : Part) : Type 0 where
+  pub some : part_text part ≢ []
+  pub short : length (part_text part) ≤ most
+  pub within : All Is (part_text part)
+
+-- a parameter has a name and a quotable value
+pub record IsParam (param : Param) : Type 0 where
+  pub name : IsField IsNameCode 32 param.name
+  pub value : Quotable 34 92 (part_text param.value)
+
+-- an element has a name and parameters
+pub record IsElement (element : Element) : Type 0 where
+  pub id : IsField IsNameCode 32 element.id
+  pub params : All IsParam element.params.items
+
+-- each of the elements has a name and parameters
+abbrev pub AreElements : List Element → Type 0
+AreElements elements = All IsElement elements
+
+-- what a parameter is written as
+abbrev pub param_text : Param → List ℕ
+param_text param = part_text param.name ++ 61 ∷ (34 ∷ (part_text param.value ++ 34 ∷ []))
+
+-- what an element is written as
+abbrev pub element_text : Element → List ℕ
+element_text element = 91 ∷ (part_text element.id
+    ++ (flat_map (λ param. 32 ∷ param_text param) element.params.items ++ 93 ∷ []))
+
+-- what structured data is written as
+abbrev pub data_text : List Element → List ℕ
+data_text [] = codes "-"
+data_text (element ∷ elements) = flat_map element_text (element ∷ elements)
+
+-- `line` is the parts of `message` in order, each of its form
+pub record IsMessage (line : List ℕ) (message : Message) : Type 0 where
+  pub joined : 60 ∷ (part_text message.priority.digits ++ 62 ∷ (part_text message.version.digits
+      ++ 32 ∷ (part_text message.time ++ 32 ∷ (part_text message.host
+      ++ 32 ∷ (part_text message.app ++ 32 ∷ (part_text message.process
+      ++ 32 ∷ (part_text message.id ++ 32 ∷ (data_text message.elements.items
+      ++ part_text message.text)))))))) ≡ line
+  pub priority : IsNumber 191 message.priority
+  pub version : IsNumber 999 message.version
+  pub time : IsField IsGraphic 32 message.time
+  pub host : IsField IsGraphic 255 message.host
+  pub app : IsField IsGraphic 48 message.app
+  pub process : IsField IsGraphic 128 message.process
+  pub id : IsField IsGraphic 32 message.id
+  pub elements : AreElements message.elements.items
+  pub text : (part_text message.text ≡ []) ⊎ StartsWith (codes " ") (part_text message.text)
+
+-- the part at fault is a part of `line`
+abbrev pub IsErrorIn : AsciiStr → LogError → Type 0
+IsErrorIn line (At part what) = part.whole ≡ line
+IsErrorIn line Memory = ⊤
+
+-- ---- cited by private functions only
+
+-- `part` is `taken`, followed by `rest`
+pub record IsFollowed (part : Part) (taken : List ℕ) (rest : Part) : Type 0 where
+  pub joined : taken ++ part_text rest ≡ part_text part
+  pub whole : rest.whole ≡ part.whole
+  pub start : part.start ≤ rest.start
+  pub end : rest.end ≡ part.end

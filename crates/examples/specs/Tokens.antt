@@ -1,0 +1,65 @@
+-- The tokens of a small language.
+use Rattle.std.specs.Prelude.{ℕ, ◌≡◌, ◌≢◌, ◌<◌, ◌⊎◌, ◌++◌, ◌∷◌, [], List, ⊤, length}
+use Rattle.std.specs.Int.{IsInRange}
+use Rattle.std.specs.List.{All}
+use Rattle.ascii.specs.Class.{IsAlphanumeric, IsDigit, IsPunctuation, IsWhitespace}
+use Rattle.ascii.specs.declared.ascii_str.AsciiStr.{AsciiStr}
+use Rattle.ascii_formats.specs.Parts.{part_text}
+use Rattle.ascii_formats.specs.Quotes.{Quotable, StartsQuoted}
+use Rattle.ascii_formats.specs.declared.parts.Part.{Part}
+use Rattle.examples.specs.declared.tokens.Kind.{Kind}
+use Rattle.examples.specs.declared.tokens.Kind.TheVariants.{Comment, Mark, Number, Quoted}
+use Rattle.examples.specs.declared.tokens.Kind.TheVariants.{Space, Word}
+use Rattle.examples.specs.declared.tokens.Token.{Token}
+use Rattle.examples.specs.declared.tokens.TokenError.{TokenError}
+use Rattle.examples.specs.declared.tokens.TokenError.TheVariants.{At, Memory}
+use Rattle.examples.specs.declared.tokens.What.TheVariants.{Character, NotClosed}
+
+-- a code that a word may contain: a letter, a digit or `_`
+abbrev pub IsWordCode : ℕ → Type 0
+IsWordCode code = IsAlphanumeric code ⊎ (code ≡ 95)
+
+-- a code that a line may contain: not LF
+abbrev pub IsLineCode : ℕ → Type 0
+IsLineCode code = IsInRange 0 9 code ⊎ IsInRange 11 127 code
+
+-- `body` is what a token of the kind has
+abbrev pub IsOf : Kind → List ℕ → Type 0
+IsOf Space body = (body ≢ []) × All IsWhitespace body
+IsOf Comment body = All IsLineCode body
+IsOf Number body = (body ≢ []) × All IsDigit body
+IsOf Word body = (body ≢ []) × All IsWordCode body
+IsOf Quoted body = Quotable 34 92 body
+IsOf Mark body = (length body ≡ 1) × All IsPunctuation body
+
+-- what a token of the kind that has `body` is written as
+abbrev pub written : Kind → List ℕ → List ℕ
+written Comment body = 35 ∷ body
+written Quoted body = 34 ∷ (body ++ 34 ∷ [])
+written kind body = body
+
+-- what a token is written as
+abbrev pub token_text : Token → List ℕ
+token_text token = written token.kind (part_text token.part)
+
+-- a token is a part of `text`, and is of its kind
+pub record IsTokenOf (text : AsciiStr) (token : Token) : Type 0 where
+  pub whole : token.part.whole ≡ text
+  pub body : IsOf token.kind (part_text token.part)
+
+-- why no token is at the start of a part of `text`. `NotClosed`: no quoted text is.
+abbrev pub IsErrorOf : AsciiStr → TokenError → Type 0
+IsErrorOf text (At part Character) = part.whole ≡ text
+IsErrorOf text (At part NotClosed) = (part.whole ≡ text)
+    × ((inside : List ℕ) → (rest : List ℕ) → ¬ (StartsQuoted 34 92 (part_text part) inside rest))
+IsErrorOf text Memory = ⊤
+
+-- ---- cited by private functions only
+
+-- `taken` is a token at the start of `part`, and what comes after it
+pub record IsTaken (part : Part) (taken : Token × Part) : Type 0 where
+  pub token : IsTokenOf part.whole taken.0
+  pub joined : token_text taken.0 ++ part_text taken.1 ≡ part_text part
+  pub whole : taken.1.whole ≡ part.whole
+  pub shorter : part.start < taken.1.start
+  pub end : taken.1.end ≡ part.end

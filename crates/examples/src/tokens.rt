@@ -1,0 +1,207 @@
+//! Prints the tokens of standard input, each with its line and column: words, numbers, quoted texts, comments after `#`
+//! and marks. A text with something else is reported with the place of its first fault.
+#![tactic(auto)]
+
+ghost use Rattle.std.specs.List.{flat_map};
+ghost use Rattle.std.specs.Prelude.{◌≡◌, ◌≢◌, ◌<◌, [], All, IfErr, IfOk, IfSome, MatchResult};
+ghost use Rattle.std.proofs.Common.{rules};
+ghost use Rattle.ascii.specs.Trim.{IsSpan};
+ghost use Rattle.ascii.specs.View.{text_of};
+ghost use Rattle.ascii_formats.specs.Parts.{AreSidesOf, part_text};
+ghost use Rattle.examples.specs.Tokens.{IsErrorOf, IsTaken, IsTokenOf, token_text};
+
+use ascii::classes::{ByRanges, Digit, Punctuation, Ranges, Searched, Whitespace};
+use ascii::{AsciiChar, AsciiStr, text};
+use ascii_formats::parts::Part;
+use std::alloc::Global;
+use std::io::{self, Read};
+use thiserror::Error;
+
+/// What a token is.
+#[derive(Clone, Copy, PartialEq, Eq, Debug)]
+pub enum Kind {
+    /// Whitespace.
+    Space,
+    /// What comes after `#` in its line.
+    Comment,
+    /// Digits.
+    Number,
+    /// Letters, digits and `_`.
+    Word,
+    /// What is between two `"`, where `\` makes the next character an ordinary one.
+    Quoted,
+    /// A punctuation mark.
+    Mark,
+}
+
+/// A token, with its place in the text.
+#[derive(Clone, Copy)]
+pub struct Token<'a> {
+    pub kind: Kind,
+    pub part: Part<'a>,
+}
+
+/// Why no token is at the start of a text.
+#[derive(Clone, Copy, Debug, Error)]
+pub enum What {
+    #[error("no token begins with this character")]
+    Character,
+    #[error("the text that begins here is not closed")]
+    NotClosed,
+}
+
+/// Why a text has no tokens: the part at whose start none is, or a lack of memory.
+#[derive(Clone, Copy)]
+pub enum TokenError<'a> {
+    At(Part<'a>, What),
+    Memory,
+}
+
+pub struct WordRanges;
+
+const WORD: [(u8, u8); 4] = [(b'0', b'9'), (b'A', b'Z'), (b'a', b'z'), (b'_', b'_')];
+
+impl Ranges for WordRanges {
+    ghost use Rattle.examples.specs.Tokens.{IsWordCode};
+    ghost use Rattle.examples.specs.declared.tokens.TheConstants.{WORD};
+
+    ghost set = { IsWordCode };
+
+    ghost list = { WORD };
+
+    ghost matches = { λ n. Prim.search rules };
+
+    fn ranges() -> &'static [(u8, u8)] {
+        &WORD
+    }
+}
+
+/// The characters of a word.
+pub type Word = ByRanges<WordRanges>;
+
+pub struct LineRanges;
+
+const LINE: [(u8, u8); 2] = [(0, 9), (11, 127)];
+
+impl Ranges for LineRanges {
+    ghost use Rattle.examples.specs.Tokens.{IsLineCode};
+    ghost use Rattle.examples.specs.declared.tokens.TheConstants.{LINE};
+
+    ghost set = { IsLineCode };
+
+    ghost list = { LINE };
+
+    ghost matches = { λ n. Prim.search rules };
+
+    fn ranges() -> &'static [(u8, u8)] {
+        &LINE
+    }
+}
+
+/// The characters of a line.
+pub type Line = ByRanges<LineRanges>;
+
+/// Returns the tokens of a text, in order, or the part of the text at whose start there is none.
+pub fn read_tokens<'a>(alloc: Global, text: AsciiStr<'a>) -> Result<Vec<Token<'a>>, TokenError<'a>>
+    ensures joined { IfOk result (λ tokens. flat_map token_text tokens.items ≡ text_of text.entry) }
+    ensures tokens { IfOk result (λ tokens. All (IsTokenOf text.entry) tokens.items) }
+    ensures fault { IfErr result (IsErrorOf text.entry) }
+{
+    let mut tokens = Vec::new(alloc);
+    let mut rest = Part::of(text);
+    'tokens: while !rest.is_empty() {
+        let (token, after) = take_token(rest)?;
+        tokens.push(token).map_err(|_| TokenError::Memory)?;
+        rest = after;
+    }
+    Ok(tokens)
+}
+
+/// Takes a token from the start of a text that is not empty.
+fn take_token<'a>(text: Part<'a>) -> Result<(Token<'a>, Part<'a>), TokenError<'a>>
+    requires { part_text text ≢ [] }
+    ensures { MatchResult result (IsTaken text.entry) (IsErrorOf text.entry.whole) }
+{
+    if let Some((part, rest)) = take_some::<Whitespace>(text) {
+        let kind = Kind::Space;
+        return Ok((Token { kind, part }, rest));
+    }
+    if let Some((part, rest)) = take_some::<Digit>(text) {
+        let kind = Kind::Number;
+        return Ok((Token { kind, part }, rest));
+    }
+    if let Some((part, rest)) = take_some::<Word>(text) {
+        let kind = Kind::Word;
+        return Ok((Token { kind, part }, rest));
+    }
+    if text.text().starts_with(AsciiStr::literal("\"")) {
+        return take_quoted(text);
+    }
+    take_mark(text)
+}
+
+/// Takes a comment or a punctuation mark from the start of a text that is not empty.
+fn take_mark<'a>(text: Part<'a>) -> Result<(Token<'a>, Part<'a>), TokenError<'a>>
+    requires { part_text text ≢ [] }
+    ensures { MatchResult result (IsTaken text.entry) (IsErrorOf text.entry.whole) }
+{
+    if let Some(after) = text.strip_prefix(AsciiStr::literal("#")) {
+        let (kind, (part, rest)) = (Kind::Comment, after.span::<Line>());
+        return Ok((Token { kind, part }, rest));
+    }
+    let (kind, (part, rest)) = (Kind::Mark, text.split_at(1));
+    if part.text().is_all::<Punctuation>() {
+        return Ok((Token { kind, part }, rest));
+    }
+    Err(TokenError::At(text, What::Character))
+}
+
+/// Takes the longest run of a class from the start of a text, if there is one.
+fn take_some<'a, C: Searched>(text: Part<'a>) -> Option<(Part<'a>, Part<'a>)>
+    ensures text { IfSome result (λ sides.
+        IsSpan C.is (part_text text.entry) (part_text sides.0) (part_text sides.1)) }
+    ensures some { IfSome result (λ sides. part_text sides.0 ≢ []) }
+    ensures place { IfSome result (AreSidesOf 0 text.entry) }
+    ensures shorter { IfSome result (λ sides. text.entry.start < sides.1.start) }
+{
+    let sides = text.span::<C>();
+    if sides.0.is_empty() {
+        return None;
+    }
+    Some(sides)
+}
+
+/// Takes a quoted text from the start of a text.
+fn take_quoted<'a>(text: Part<'a>) -> Result<(Token<'a>, Part<'a>), TokenError<'a>>
+    ensures { MatchResult result (IsTaken text.entry) (IsErrorOf text.entry.whole) }
+{
+    match text.quoted(AsciiChar::Quotation, AsciiChar::BackSlash) {
+        Ok((part, rest)) => {
+            let kind = Kind::Quoted;
+            Ok((Token { kind, part }, rest))
+        }
+        Err(_) => Err(TokenError::At(text, What::NotClosed)),
+    }
+}
+
+pub fn main(rt: HostRuntime) -> io::Result<()> {
+    let mut source = String::new(rt.alloc());
+    rt.stdin().read_to_string(&mut source)?;
+    let view = match text::as_ascii_str(source.as_str()) {
+        Ok(view) => view,
+        Err(error) => return println!(rt; "{error}"),
+    };
+    match read_tokens(rt.alloc(), view) {
+        Ok(tokens) => {
+            for token in &tokens {
+                if token.kind != Kind::Space {
+                    let place = token.part.line_and_column();
+                    println!(rt; "{place}: {:?} {}", token.kind, token.part.text())?;
+                }
+            }
+            Ok(())
+        }
+        Err(TokenError::At(part, what)) => println!(rt; "{}", part.fault(what)),
+        Err(TokenError::Memory) => println!(rt; "no memory"),
+    }
+}
