@@ -21,7 +21,8 @@
 //! there, the parser still has the part, and reports it: `Err(part)` says where, and `part.fault(what)` prints it.
 //!
 //! A contract says of each result that its `whole` is that of the part, and says its `start` and its
-//! `end` by equations. Nothing here allocates.
+//! `end` by equations. So the measure of a loop that takes from the start of `rest` is
+//! `l.rest.end - l.rest.start`. Nothing here allocates.
 
 ghost use Rattle.std.specs.Prelude.{◌≡◌, ◌≤◌, ◌↔◌, ◌+◌, ◌-◌, [], Some, IfOk, IfSome, IsTrue};
 ghost use Rattle.std.specs.Prelude.{MatchOption, MatchResult, drop, length, take};
