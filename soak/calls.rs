@@ -206,6 +206,7 @@ calls! {
     fn ask_small_capacities(source: &[u8], texts: &[u8], steps: &[Step]);
     fn ask_reader(source: &[u8], size: usize, device: &Device, steps: &[Step]);
     fn ask_collected_lines(source: &[u8], size: usize, device: &Device);
+    fn ask_folded_lines(source: &[u8], size: usize, device: &Device);
     fn ask_block(source: &[u8], size: usize, device: &Device, most: usize);
     fn ask_writer(texts: &[u8], size: usize, device: &Device, steps: &[Step]);
     fn ask_conversation(source: &[u8], size: usize, reads: &Device, writes: &Device);

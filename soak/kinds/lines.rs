@@ -30,6 +30,11 @@ pub static KINDS: &[Kind] = &[
         let device = slow(random);
         ask_collected(&mut Model::new(&source, size), &source, size, device, asked);
     }),
+    allocating("lines that change a state", |random, asked| {
+        let (source, size) = source_and_size(random);
+        let device = slow(random);
+        ask_folded(&mut Model::new(&source, size), &source, size, device, asked);
+    }),
     allocating("blocks of lines", |random, asked| {
         let (source, size) = source_and_size(random);
         let (device, most) = (slow(random), random.count(6));
@@ -137,6 +142,25 @@ pub fn ask_collected(model: &mut Model<'_>, source: &[u8], size: usize, device: 
 }
 
 /// Asks for the lines up to an empty one, at most `most`.
+/// Asks for a number made from the lines up to the end or the first error, in order.
+fn ask_folded(model: &mut Model<'_>, source: &[u8], size: usize, device: Device, asked: &mut Asked) {
+    calls::ask_folded_lines(asked, source, size, &device);
+    let (mut count, mut mixed) = (0, 0u64);
+    let end = loop {
+        match model.next_line() {
+            Ok((start, body, _)) => {
+                count += 1;
+                mixed = mixed.wrapping_mul(31).wrapping_add(start as u64);
+                mixed = mixed.wrapping_mul(31).wrapping_add(body.len() as u64);
+            }
+            Err(end) => break end,
+        }
+    };
+    asked.want.put((count, mixed));
+    asked.want.put((end, model.start));
+    asked.want.fails(Needs::Memory, 0, Failed);
+}
+
 pub fn ask_block(model: &mut Model<'_>, source: &[u8], size: usize, device: Device, most: usize, asked: &mut Asked) {
     calls::ask_block(asked, source, size, &device, most);
     let want = &mut asked.want;

@@ -98,12 +98,19 @@ def names_of_tests(crate, keys):
     return names
 
 
+@cache
+def declared():
+    """The types that the examples have beside those of the libraries."""
+    return re.findall(r"^struct (\w+)", ROOT.read_text(encoding="utf-8"), re.MULTILINE)
+
+
 def tests(crate, examples, is_proved):
     """The tests of some examples of a crate, as lines: a module for each, with the lines that its page has above it."""
     yield f"//! The examples in the documentation of `{crate}`."
     for name, key, lines in examples:
         uses = [*uses_of(lines, crate, key), *([] if is_proved else ["use testing::assert_debug;"])]
-        uses += ["use super::super::Echo;"] if re.search(r"\bEcho\b", "\n".join(lines)) else []
+        used = [it for it in declared() if re.search(rf"\b{it}\b", "\n".join(lines))]
+        uses += [f"use super::super::{it};" for it in used]
         if is_proved and key != "AsciiStr::literal":
             lines, uses = [with_view(line) for line in lines], [*uses, "use testing::view;"]
         body = made_without_comparing(lines) if is_proved else list(statements(lines))

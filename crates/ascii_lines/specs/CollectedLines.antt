@@ -44,6 +44,15 @@ AreFirstLines old lines error = (told : List ℕ) → old.device.rest ≡ Some t
     × (error ≡ None → others ≡ [])
     × All (λ line. IsBody old.endings line.body) (items_of lines)
 
+-- from the state `old` to the state `new` the reader returned some lines, and stopped after them at
+-- the error, or at the end; and what `after` says of these lines is true of `state`
+pub record FoldsLines {T : Type 0} (after : List (WithStart Line) → T → Type 0) (old : ReaderState)
+    (state : T) (error : Option LineError) (new : ReaderState) : Type 0 where
+  pub lines : List (WithStart Line)
+  pub runs : YieldsUntil old lines error new
+  pub first : AreFirstLines old lines error
+  pub holds : after lines state
+
 -- the lines of a `Block`, with their starts
 abbrev pub block_lines_in : Block → List (WithStart Line)
 block_lines_in block = map owned_line_in block.lines.items

@@ -12,6 +12,7 @@
 //! | choose which endings end a line | `Endings`, an argument of `LineReader::new` |
 //! | read a part of an announced length | `LineReader::read_exact_part` |
 //! | go on after a line that was rejected | `LineReader::skip_line` |
+//! | change a state by each line | `fold_lines`, with a `LineStep` |
 //! | keep all lines, or those up to an empty one | `collect_lines`, `read_block` |
 //! | write lines, and texts with line breaks in them | `LineWriter::write_line`, `write_part` |
 //! | answer each line of an input with lines | `serve`, with a `Handler` |
@@ -23,6 +24,7 @@
 
 mod conversation;
 mod errors;
+mod folding;
 mod line_buffer;
 mod line_cursor;
 mod line_reader;
@@ -36,6 +38,7 @@ pub use ascii::iter::{Ending, Endings};
 pub use ascii::{AsciiChar, AsciiStr, AsciiString};
 pub use ascii_devices::{Channel, DeviceFault, Duplex, Input, Output, Sink, Source};
 pub use conversation::{Awaited, Conversation, Supply};
+pub use folding::{LineStep, fold_lines};
 pub use line_reader::{LineError, LineReader, ReadBytes, ReadLine, ReadPart};
 pub use line_writer::{LineWriter, WriteError};
 pub use owned_lines::{Block, BlockEnd, CollectedLines, OwnedLine, collect_lines, read_block};

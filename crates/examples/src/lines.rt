@@ -9,7 +9,8 @@ ghost use Rattle.ascii_lines.specs.LineReader.{IsOpen};
 ghost use Rattle.examples.specs.Reading.{Counts, Finds, ReadsHeader};
 
 use ascii_lines::{
-    AsciiStr, Block, BlockEnd, Endings, Input, LineError, LineReader, Source, read_block,
+    AsciiStr, Block, BlockEnd, Endings, Input, LineError, LineReader, LineStep, ReadLine, Source,
+    fold_lines, read_block,
 };
 use std::alloc::{AllocError, Allocator, Global};
 use std::io;
@@ -17,19 +18,30 @@ use std::io;
 /// How many bytes of a line are skipped at most.
 const LONGEST: u64 = 1_000_000;
 
+/// A number of lines.
+#[derive(Drop)]
+struct LineCount {
+    count: u64,
+}
+
+impl LineStep for LineCount {
+    ghost use Rattle.std.specs.Prelude.{◌≡◌, length};
+
+    ghost after = { λ lines counted. length lines ≡ counted.count };
+
+    fn step(&mut self, _line: ReadLine<'_>) {
+        self.count += 1;
+    }
+}
+
 /// Returns the number of lines up to the end of the input, or the error of the reader.
 pub fn count_lines<S: Source, A: Allocator>(reader: &mut LineReader<S, A>) -> Result<u64, LineError>
     requires { IsOpen reader.old }
     ensures { IfOk result (Counts reader.old.state reader.new.state) }
 {
-    let mut count = 0;
-    'lines: loop {
-        match reader.next_line() {
-            Ok(Some(_)) => count += 1,
-            Ok(None) => return Ok(count),
-            Err(error) => return Err(error),
-        }
-    }
+    let mut lines = LineCount { count: 0 };
+    fold_lines(reader, &mut lines)?;
+    Ok(lines.count)
 }
 
 /// Returns the position of the first line with this text, `None` if there is none up to the end of the input, or

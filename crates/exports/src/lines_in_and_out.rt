@@ -8,9 +8,9 @@ use crate::steps::Step;
 use ascii::iter::Ending;
 use ascii::{AsciiChar, AsciiStr};
 use ascii_lines::{
-    Block, BlockEnd, Duplex, Endings, Handler, Input, LineChannel, LineError, LineReader,
+    Block, BlockEnd, Duplex, Endings, Handler, Input, LineChannel, LineError, LineReader, LineStep,
     LineWriter, Next, Output, OwnedLine, ReadBytes, ReadLine, ReadPart, Replies, Sink, SkippedLine,
-    Stop, WriteError, collect_lines, read_block, serve,
+    Stop, WriteError, collect_lines, fold_lines, read_block, serve,
 };
 use std::alloc::{AllocError, Allocator, Global};
 
@@ -103,6 +103,44 @@ pub fn ask_collected_lines(
         Ok(kept) => answer.put((kept.lines, kept.error)),
         Err(error) => answer.put((error, reader.position())),
     }
+}
+
+/// How many lines there were, and a number made from their starts and lengths in order.
+#[derive(Drop)]
+struct LineSum {
+    count: u64,
+    mixed: u64,
+}
+
+impl LineStep for LineSum {
+    ghost use Rattle.std.specs.Prelude.{◌≡◌, length};
+
+    ghost after = { λ lines sum. length lines ≡ sum.count };
+
+    fn step(&mut self, line: ReadLine<'_>) {
+        self.count += 1;
+        let shifted = self.mixed.wrapping_mul(31).wrapping_add(line.start);
+        self.mixed = shifted.wrapping_mul(31).wrapping_add(line.text.len() as u64);
+    }
+}
+
+/// The sum of the lines that a reader with a buffer of `size` bytes changes it by, the error or none, and the position
+/// after them.
+pub fn ask_folded_lines(
+    alloc: Global,
+    source: &[u8],
+    size: usize,
+    device: &Device,
+    answer: &mut Answer,
+) {
+    let source = Input::new(Given::new(source, *device));
+    let Ok(mut reader) = LineReader::new(alloc, source, size, Endings::Any) else {
+        return answer.put(AllocError);
+    };
+    let mut sum = LineSum { count: 0, mixed: 0 };
+    let error = fold_lines(&mut reader, &mut sum).err();
+    answer.put((sum.count, sum.mixed));
+    answer.put((error, reader.position()));
 }
 
 impl Put for OwnedLine {

@@ -1,4 +1,4 @@
-use Rattle.std.proofs.Common.{◌≡◌, ℕ, Bool, IfErr, arith, length-append, Ok, Option, take}
+use Rattle.std.proofs.Common.{◌≡◌, ℕ, Bool, IfErr, arith, length-append, Ok, Option}
 use Rattle.std.proofs.Math.Seq.{take-append_seam}
 use Rattle.ascii_devices.specs.States.{source_state}
 use Rattle.ascii_lines.specs.LineReader.{Looks, window_at}
