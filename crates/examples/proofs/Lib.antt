@@ -1,1 +1,2 @@
+pub mod PagerLemmas
 pub mod TallyLemmas

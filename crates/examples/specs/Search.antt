@@ -1,26 +1,30 @@
 -- Searches among lines.
-use Rattle.std.specs.List.{All, AllWithin, HoldsAt}
-use Rattle.std.specs.Prelude.{ℕ, ◌+◌, ◌<◌, List, MatchOption, Option, length, map}
+use Rattle.std.specs.List.{All}
+use Rattle.std.specs.Prelude.{◌≡◌, ℕ, List, ◌∷◌, ◌++◌, MatchOption, Option, map}
 use Rattle.ascii.specs.Case.{lower_image}
+use Rattle.ascii.specs.Lines.{Line}
 use Rattle.ascii.specs.Search.{ContainsText}
-use Rattle.ascii.specs.View.{text_of}
-use Rattle.ascii.specs.declared.ascii_str.AsciiStr.{AsciiStr}
-use Rattle.examples.specs.declared.pager.CaseMode.{CaseMode}
-use Rattle.examples.specs.declared.pager.CaseMode.TheVariants.{Exact, Ignored}
+use Rattle.ascii.specs.Spans.{WithStart, line_in}
+use Rattle.ascii.specs.declared.iter.spans.LineSpan.{LineSpan}
 
--- `line` contains `word`, by the mode
-abbrev pub Has : CaseMode → List ℕ → List ℕ → Type 0
-Has Exact word line = ContainsText word line
-Has Ignored word line = ContainsText (map lower_image word) (map lower_image line)
+-- `line` contains `word`, ignoring ASCII case
+abbrev pub Has : List ℕ → WithStart Line → Type 0
+Has word line = ContainsText (map lower_image word) (map lower_image line.item.body)
 
--- none of the lines from the index `i` on contains `word`
-abbrev pub NoneFrom : ℕ → CaseMode → List ℕ → List AsciiStr → Type 0
-NoneFrom i mode word lines =
-    AllWithin (λ line. ¬ (Has mode word (text_of line))) lines i (length lines)
+-- none of `lines` contains `word`
+abbrev pub NoneHas : List ℕ → List (WithStart Line) → Type 0
+NoneHas word lines = All (λ line. ¬ (Has word line)) lines
 
--- the last index of a line that contains `word`, or `None` if there is none
-abbrev pub IsLastWith : CaseMode → List ℕ → List AsciiStr → Option ℕ → Type 0
-IsLastWith mode word lines result = MatchOption result
-    (All (λ line. ¬ (Has mode word (text_of line))) lines)
-    (λ i. (i < length lines) × HoldsAt (λ line. Has mode word (text_of line)) lines i
-    × NoneFrom (i + 1) mode word lines)
+-- `line` is one of `lines` and contains `word`, and none after it does
+pub record IsLast (word : List ℕ) (lines : List (WithStart Line)) (line : WithStart Line) : Type 0
+  where
+    pub before : List (WithStart Line)
+    pub after : List (WithStart Line)
+    pub split : lines ≡ before ++ line ∷ after
+    pub has : Has word line
+    pub last : NoneHas word after
+
+-- the last of `lines` that contains `word`, or `None` if none does
+abbrev pub IsLastWith : List ℕ → Option LineSpan → List (WithStart Line) → Type 0
+IsLastWith word result lines =
+    MatchOption result (NoneHas word lines) (λ line. IsLast word lines (line_in line))

@@ -2,44 +2,23 @@
 //! of 24 columns.
 #![tactic(auto)]
 
-ghost use Rattle.std.specs.Prelude.{◌≡◌, ◌≤◌, ◌<◌, ◌↔◌, All, IfOk, IsTrue, length};
+ghost use Rattle.std.specs.Prelude.{◌≡◌, ◌≤◌, ◌<◌, All, IfOk, IfSome, length};
 ghost use Rattle.std.specs.List.{flat_map};
+ghost use Rattle.ascii.specs.Spans.{OfLineSpans};
 ghost use Rattle.ascii.specs.View.{text_of};
-ghost use Rattle.examples.specs.Search.{Has, IsLastWith};
+ghost use Rattle.examples.specs.Search.{IsLastWith};
 
-use ascii::{AsciiChar, AsciiStr, Finder, text};
+use ascii::iter::LineSpan;
+use ascii::{AsciiChar, AsciiStr, FinderIgnoringCase, text};
 use std::alloc::{AllocFailed, Global};
 use std::io::{self, Read};
 
-/// Whether a search distinguishes the case of letters.
-#[derive(Clone, Copy, PartialEq, Eq, Debug)]
-pub enum CaseMode {
-    Exact,
-    Ignored,
-}
-
-/// Returns the index of the last line that contains the word, or `None` if there is none.
-pub fn last_with(lines: &[AsciiStr<'_>], word: &Finder<'_>, mode: CaseMode) -> Option<usize>
-    ensures { IsLastWith mode word.now lines.now result }
+/// Returns the last line that contains the word, ignoring ASCII case, with its start, or `None` if there is none.
+pub fn last_with<'a>(text: AsciiStr<'a>, word: &FinderIgnoringCase<'_>) -> Option<LineSpan<'a>>
+    ensures last { OfLineSpans text.entry (IsLastWith word.now result) }
+    ensures inside { IfSome result (λ line. line.start ≤ length (text_of text.entry)) }
 {
-    let mut index = lines.len();
-    while index > 0 {
-        index -= 1;
-        if has(lines[index], word, mode) {
-            return Some(index);
-        }
-    }
-    None
-}
-
-/// Returns `true` if the line contains the word, by the mode.
-pub fn has(line: AsciiStr<'_>, word: &Finder<'_>, mode: CaseMode) -> bool
-    ensures { IsTrue result ↔ Has mode word.now (text_of line.entry) }
-{
-    match mode {
-        CaseMode::Exact => word.is_in(line),
-        CaseMode::Ignored => line.contains_ignore_ascii_case(word.needle()),
-    }
+    text.lines_with(word).last()
 }
 
 /// Returns the rows of a line in a window: at most `width` characters each.
@@ -75,12 +54,13 @@ pub fn main(rt: HostRuntime) -> io::Result<()> {
     let Some((word, rest)) = view.split_once(AsciiChar::LineFeed) else {
         return println!(rt; "no text");
     };
-    let lines: Vec<AsciiStr<'_>> = rest.lines().collect(rt.alloc())?;
-    let Some(first) = last_with(&lines, &Finder::new(word), CaseMode::Ignored) else {
-        return println!(rt; "'{word}' not found");
+    let finder = FinderIgnoringCase::new(word);
+    let Some(first) = last_with(rest, &finder) else {
+        return println!(rt; "'{}' not found", finder.needle());
     };
-    for line in &lines[first..] {
-        for row in &rows_of(rt.alloc(), *line, 24)? {
+    let (_, shown) = rest.split_at(first.start);
+    for line in shown.lines() {
+        for row in &rows_of(rt.alloc(), line, 24)? {
             println!(rt; "{row}")?;
         }
     }
