@@ -3,14 +3,14 @@
 //! functions go over lines in other ways.
 #![tactic(auto)]
 
-ghost use Rattle.std.specs.Prelude.{◌≡◌, IfOk, OnOk, length};
-ghost use Rattle.ascii.specs.View.{text_of};
+ghost use Rattle.std.specs.Prelude.{IfOk};
 ghost use Rattle.ascii_lines.specs.LineReader.{IsOpen};
 ghost use Rattle.examples.specs.Reading.{Counts, Finds, ReadsHeader};
 
+use ascii::Finder;
 use ascii_lines::{
-    AsciiStr, Block, BlockEnd, Endings, Input, LineError, LineReader, LineStep, ReadLine, Source,
-    fold_lines, read_block,
+    Block, BlockEnd, Endings, Input, LineError, LineReader, LineStep, ReadLine, Source, fold_lines,
+    read_block,
 };
 use std::alloc::{AllocError, Allocator, Global};
 use std::io;
@@ -44,19 +44,19 @@ pub fn count_lines<S: Source, A: Allocator>(reader: &mut LineReader<S, A>) -> Re
     Ok(lines.count)
 }
 
-/// Returns the position of the first line with this text, `None` if there is none up to the end of the input, or
+/// Returns the position of the first line that contains this text, `None` if none does up to the end of the input, or
 /// the error of the reader. The reader goes on after that line.
 pub fn find_line<S: Source, A: Allocator>(
     reader: &mut LineReader<S, A>,
-    text: AsciiStr<'_>,
+    text: &Finder<'_>,
 ) -> Result<Option<u64>, LineError>
     requires { IsOpen reader.old }
-    ensures { IfOk result (Finds (text_of text.entry) reader.old.state reader.new.state) }
+    ensures { IfOk result (Finds text.now reader.old.state reader.new.state) }
 {
     'lines: loop {
         match reader.next_line() {
             Ok(Some(line)) => {
-                if line.text.eq_bytes(text.as_bytes()) {
+                if text.is_in(line.text) {
                     return Ok(Some(line.start));
                 }
             }

@@ -1,9 +1,9 @@
-use Rattle.std.proofs.Common.{Ok, ◌++◌, ◌∷◌, [], ◌≢◌, ap, arith, refl, sym, ◌∙◌}
+use Rattle.std.proofs.Common.{Ok, ◌++◌, ◌∷◌, [], ap, arith, refl, ◌∙◌}
 use Rattle.std.proofs.lemmas.Bool.{false≢true}
 use Rattle.ascii.specs.Lines.{Line}
+use Rattle.ascii.specs.Search.{ContainsText}
 use Rattle.ascii.specs.Spans.{WithStart}
 use Rattle.std.proofs.lemmas.List.Elements.{All-append, All-cons, All-nil}
-use Rattle.ascii.specs.View.{text_of}
 use Rattle.ascii_lines.specs.LineReader.{read_line_in}
 use Rattle.ascii_lines.proofs.LineReaderLemmas.{line_advances, no_more, one_more, yields_nil}
 use Rattle.examples.proofs.lines.find_line.Goals as goal
@@ -11,14 +11,14 @@ use Rattle.examples.proofs.lines.find_line.Goals as goal
 pub lines-init : goal.lines-init
 lines-init g c = ([], All-nil _, yields_nil c.args.reader.now.state c.requires)
 
-pub returns-then-eq_bytes : goal.returns-then-eq_bytes
-returns-then-eq_bytes g c =
+pub returns-then-is_in : goal.returns-then-is_in
+returns-then-is_in g c =
     let lines = c.lines.invariant in
     let line = c.in-Ok-Some.line in (
       lines.0,
       read_line_in line,
       lines.1,
-      c.if-eq_bytes.ensures.0 refl ∙ c.as_bytes.ensures.codes,
+      c.if-is_in.ensures.0 refl,
       refl,
       one_more c.args.reader.now.state lines.0 c.lines.reader
           c.next_line.follows.lender-at-none c.next_line.result line (read_line_in line)
@@ -39,11 +39,12 @@ lines-preserved g c =
     let line = c.in-Ok-Some.line in
     let now = c.next_line.follows.lender-at-none in
     let is = c.in-Ok-Some.is ∙ ap Ok c.in-Ok-Some.field-0-is in
-    let IsOther : WithStart Line → Type 0 = λ line. line.item.body ≢ text_of c.args.text in (
+    let IsOther : WithStart Line → Type 0 =
+    λ line. ¬ (ContainsText c.args.text.now line.item.body) in (
       lines.0 ++ read_line_in line ∷ [],
       All-append IsOther lines.0 (read_line_in line ∷ []) lines.1
           (All-cons IsOther (read_line_in line) []
-          (λ same. false≢true (c.if-eq_bytes.ensures.1 (same ∙ sym c.as_bytes.ensures.codes)))
+          (λ contains. false≢true (c.if-is_in.ensures.1 contains))
           (All-nil IsOther)),
       one_more c.args.reader.now.state lines.0 c.lines.reader now c.next_line.result line
           (read_line_in line) lines.2 c.next_line.follows.holds-at-none is refl,

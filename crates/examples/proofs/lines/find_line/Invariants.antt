@@ -1,14 +1,13 @@
 use Rattle.std.proofs.Common.{◌-◌, ◌^◌, List}
 use Rattle.ascii.specs.Lines.{Line}
 use Rattle.ascii.specs.Spans.{WithStart}
-use Rattle.ascii.specs.View.{text_of}
 use Rattle.ascii_lines.specs.LineReader.{YieldsLines}
 use Rattle.examples.specs.Reading.{AreOthers}
 use Rattle.examples.proofs.lines.find_line.Given as goal
 
--- the lines so far, of which none has the text
+-- the lines so far, of which none contains the text
 abbrev pub invariant-lines : goal.invariant-lines
-invariant-lines g l = (lines : List (WithStart Line)) × AreOthers (text_of l.text) lines
+invariant-lines g l = (lines : List (WithStart Line)) × AreOthers l.text lines
     × YieldsLines l.fn.reader.state lines l.reader.state
 
 -- the positions that are left
