@@ -19,10 +19,12 @@ pub static KINDS: &[Kind] = &[
         let text = random.text();
         ask_find_character(random.code_of(&text), text, asked);
     }),
-    // Texts of many lines, which are mostly longer than those that are searched by masks, and shorter ones.
+    // Texts of many lines, which are mostly longer than those that are searched by masks, and shorter ones. The needle may
+    // be in another case.
     kind("lines with a text", |random, asked| {
-        let text = if random.below(2) == 0 { random.text() } else { random.repeated(b"\r\n\nxy", 800) };
+        let text = if random.below(2) == 0 { random.text() } else { random.repeated(b"\r\n\nxyX", 800) };
         let (needle, script) = (random.needle(&text), random.script(3));
+        let needle = if random.below(2) == 0 { random.other(&needle) } else { needle };
         ask_finder(&string(text), &string(needle), &script, asked);
     }),
     kind("at most n pieces", |random, asked| {
@@ -68,12 +70,21 @@ pub fn ask_find_character(code: u8, text: Vec<u8>, asked: &mut Asked) {
     want.put((text.find(on), text.rfind(on), text.split_once(on), text.rsplit_once(on)));
 }
 
-/// Asks a finder for its needle in a text, and for the lines that contain it, by a script from the front.
+/// Asks a finder, and one that ignores case, for its needle in a text, and for the lines that contain it, by a script from
+/// the front.
 pub fn ask_finder(text: &str, needle: &str, script: &[u8], asked: &mut Asked) {
     calls::ask_finder(asked, text.as_bytes(), needle.as_bytes(), script);
+    let (low, lower) = (text.to_ascii_lowercase(), needle.to_ascii_lowercase());
     asked.want.put((needle, text.find(needle), text.contains(needle)));
+    want_lines(text, |line| line.contains(needle), script, asked);
+    asked.want.put((needle, low.find(&lower), low.contains(&lower)));
+    want_lines(text, |line| line.to_ascii_lowercase().contains(&lower), script, asked);
+}
+
+/// Expects the lines of a text of which a test is true, by a script from the front.
+fn want_lines(text: &str, is_kept: impl Fn(&str) -> bool, script: &[u8], asked: &mut Asked) {
     let mut lines = lines_of(text.as_bytes());
-    lines.retain(|line| string(line.text.to_vec()).contains(needle));
+    lines.retain(|line| is_kept(&string(line.text.to_vec())));
     for number in script {
         let line = take_forward(&mut lines, *number);
         asked.want.put(line.map(|line| (line.ending(), line.start, line.text)));

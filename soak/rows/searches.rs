@@ -56,9 +56,13 @@ static PAIRS: [(&str, &str); 10] = [
     ("abcabd", "bd"),
 ];
 
-/// A text, a needle, and the lines that contain it, each with its ending and its start.
-type LinesWith = (&'static str, &'static str, &'static [(&'static str, usize, &'static str)]);
+/// Lines, each with its ending and its start.
+type Lines = &'static [(&'static str, usize, &'static str)];
 
+/// A text, a needle, and the lines that contain it.
+type LinesWith = (&'static str, &'static str, Lines);
+
+/// The same lines contain the needle in any case.
 static LINES_WITH: [LinesWith; 12] = [
     ("a\nab\r\nb", "b", &[("crlf", 2, "ab"), ("none", 6, "b")]),
     ("ab\nab\n", "ab", &[("lf", 0, "ab"), ("lf", 3, "ab")]),
@@ -76,15 +80,35 @@ static LINES_WITH: [LinesWith; 12] = [
     ("", "a", &[]),
 ];
 
+/// A text, a needle, the lines that contain it, and those that contain it in any case.
+static LINES_IN_ANY_CASE: [(&str, &str, Lines, Lines); 5] = [
+    ("aB\nAb\nb", "ab", &[], &[("lf", 0, "aB"), ("lf", 3, "Ab")]),
+    ("aB\r\nAB", "aB", &[("crlf", 0, "aB")], &[("crlf", 0, "aB"), ("none", 4, "AB")]),
+    // No mark is a letter in another case.
+    ("[a\n{A\n@", "{a", &[], &[("lf", 3, "{A")]),
+    ("xA\nBx\nAB", "a\nb", &[], &[]),
+    ("AA\r\nA\r", "a\r", &[], &[("none", 4, "A\r")]),
+];
+
 fn lines_with(rows: &mut Rows) {
     for (text, needle, lines) in LINES_WITH {
-        rows.ask(|asked| {
-            calls::ask_finder(asked, text.as_bytes(), needle.as_bytes(), &[0; 4]);
-            asked.want.put((needle, text.find(needle), text.contains(needle)));
+        ask_lines_with(rows, text, needle, lines, lines);
+    }
+    for (text, needle, lines, in_any_case) in LINES_IN_ANY_CASE {
+        ask_lines_with(rows, text, needle, lines, in_any_case);
+    }
+}
+
+fn ask_lines_with(rows: &mut Rows, text: &str, needle: &str, lines: Lines, in_any_case: Lines) {
+    let (low, lower) = (text.to_ascii_lowercase(), needle.to_ascii_lowercase());
+    rows.ask(|asked| {
+        calls::ask_finder(asked, text.as_bytes(), needle.as_bytes(), &[0; 4]);
+        for (text, wanted, lines) in [(text, needle, lines), (&low[..], &lower[..], in_any_case)] {
+            asked.want.put((needle, text.find(wanted), text.contains(wanted)));
             asked.want.all(lines);
             asked.want.times(4 - lines.len(), NOTHING);
-        });
-    }
+        }
+    });
 }
 
 /// Texts about the length up to which they are searched by masks.

@@ -2,7 +2,7 @@
 
 use crate::answer::Answer;
 use crate::walks::step_forward;
-use ascii::{AsciiChar, AsciiStr, Finder};
+use ascii::{AnyFinder, AsciiChar, AsciiStr, Finder, FinderIgnoringCase};
 use std::alloc::Global;
 
 /// The first and the last position of a needle, and the two sides of both; whether the text contains it, starts with it
@@ -29,11 +29,19 @@ pub fn ask_find_character(on: AsciiChar, source: AsciiStr, answer: &mut Answer) 
 }
 
 /// The needle of a finder, its first position in a text, and whether the text contains it; and the lines that contain it by
-/// a script from the front.
+/// a script from the front. After that the same of a finder that ignores case.
 pub fn ask_finder(source: AsciiStr, needle: AsciiStr, script: &[u8], answer: &mut Answer) {
     let finder = Finder::new(needle);
     answer.put((finder.needle(), finder.find(source), finder.is_in(source)));
-    let mut lines = source.lines_with(&finder);
+    put_lines_with(source, &finder, script, answer);
+    let finder = FinderIgnoringCase::new(needle);
+    answer.put((finder.needle(), finder.find(source), finder.is_in(source)));
+    put_lines_with(source, &finder, script, answer);
+}
+
+/// The lines that contain the needle of a finder by a script from the front.
+fn put_lines_with<F: AnyFinder>(source: AsciiStr, finder: &F, script: &[u8], answer: &mut Answer) {
+    let mut lines = source.lines_with(finder);
     for number in script {
         answer.put(step_forward(&mut lines, *number));
     }

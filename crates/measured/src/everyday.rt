@@ -3,7 +3,7 @@
 
 use crate::calls::{mark, mixed};
 use ascii::classes::{Blank, Hexdigit, Token};
-use ascii::{AsciiChar, AsciiStr, AsciiString, Finder, bytes};
+use ascii::{AsciiChar, AsciiStr, AsciiString, Finder, FinderIgnoringCase, bytes};
 use ascii_formats::{AsciiStrExt, AsciiStringExt};
 use cookbook::identifiers::Identifier;
 use std::alloc::{AllocError, Global};
@@ -90,11 +90,10 @@ pub fn bench_grep_ignoring_case(source: &[u8], needle: &[u8]) -> usize {
     let (Ok(text), Ok(needle)) = (bytes::as_ascii_str(source), bytes::as_ascii_str(needle)) else {
         return 0;
     };
+    let finder = FinderIgnoringCase::new(needle);
     let mut sum: usize = 0;
-    for line in text.lines() {
-        if line.contains_ignore_ascii_case(needle) {
-            sum = mixed(sum, line.len());
-        }
+    for line in text.lines_with(&finder) {
+        sum = mixed(sum, line.text.len());
     }
     sum
 }
