@@ -1,14 +1,13 @@
 //! Prints what each line of a log in the form of RFC 5424 says, or the column at which it is at fault.
 #![tactic(auto)]
 
-ghost use Rattle.std.specs.Prelude.{◌≡◌, ◌≢◌, ◌≤◌, ◌<◌, ◌++◌, ◌∷◌, [], All, IfOk, MatchResult};
+ghost use Rattle.std.specs.Prelude.{◌<◌, IfOk, MatchResult};
 ghost use Rattle.std.proofs.Common.{rules};
-ghost use Rattle.ascii.specs.Class.{IsGraphic};
 ghost use Rattle.ascii.specs.View.{text_of};
 ghost use Rattle.ascii_formats.specs.Parts.{part_text};
 ghost use Rattle.examples.specs.Log.{AreElements, IsElement, IsErrorIn, IsField, IsFollowed};
-ghost use Rattle.examples.specs.Log.{IsMessage, IsNumber, IsParam, data_text, element_text};
-ghost use Rattle.examples.specs.Log.{param_text};
+ghost use Rattle.examples.specs.Log.{IsMessage, IsNumber, IsParam};
+ghost use Rattle.examples.specs.Log.{data_text, element_text, param_text};
 
 use ascii::classes::{ByRanges, Digit, Graphic, Ranges, Searched};
 use ascii::{AsciiChar, AsciiStr, text};
