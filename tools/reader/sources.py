@@ -87,7 +87,7 @@ def exported(modules, here=(), front=""):
         elif item.kind == "use":
             for path in used_paths(item):
                 yield from exported_use(modules, here, front, path)
-        elif item.kind in ("fn", "struct", "enum", "trait", "type"):
+        elif item.kind in ("fn", "struct", "enum", "trait", "type", "const"):
             yield front + item.name, item
         else:
             raise Wrong(f"a public item of a kind that no page quotes: {item.head}")
