@@ -1,2 +1,3 @@
 pub mod PagerLemmas
 pub mod TallyLemmas
+pub mod TokensLemmas

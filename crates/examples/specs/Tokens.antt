@@ -1,5 +1,5 @@
 -- The tokens of a small language.
-use Rattle.std.specs.Prelude.{ℕ, ◌≡◌, ◌≢◌, ◌<◌, ◌⊎◌, ◌++◌, ◌∷◌, [], List, ⊤, length}
+use Rattle.std.specs.Prelude.{ℕ, ◌≡◌, ◌≢◌, ◌+◌, ◌<◌, ◌⊎◌, ◌++◌, ◌∷◌, [], List, ⊤, length}
 use Rattle.std.specs.Int.{IsInRange}
 use Rattle.std.specs.List.{All}
 use Rattle.ascii.specs.Class.{IsAlphanumeric, IsDigit, IsPunctuation, IsWhitespace}
@@ -42,6 +42,23 @@ written kind body = body
 abbrev pub token_text : Token → List ℕ
 token_text token = written token.kind (part_text token.part)
 
+-- how many codes of a token of the kind are before its part: `#` or a quote
+abbrev pub lead : Kind → ℕ
+lead Comment = 1
+lead Quoted = 1
+lead kind = 0
+
+-- how many are after it
+abbrev pub tail : Kind → ℕ
+tail Quoted = 1
+tail kind = 0
+
+-- the tokens come one after the other, from the position `at` to `end`
+abbrev pub AreLaid : ℕ → List Token → ℕ → Type 0
+AreLaid at [] end = at ≡ end
+AreLaid at (token ∷ tokens) end = (token.part.start ≡ at + lead token.kind)
+    × AreLaid (token.part.end + tail token.kind) tokens end
+
 -- a token is a part of `text`, and is of its kind
 pub record IsTokenOf (text : AsciiStr) (token : Token) : Type 0 where
   pub whole : token.part.whole ≡ text
@@ -61,5 +78,7 @@ pub record IsTaken (part : Part) (taken : Token × Part) : Type 0 where
   pub token : IsTokenOf part.whole taken.0
   pub joined : token_text taken.0 ++ part_text taken.1 ≡ part_text part
   pub whole : taken.1.whole ≡ part.whole
+  pub start : taken.0.part.start ≡ part.start + lead taken.0.kind
+  pub after : taken.1.start ≡ taken.0.part.end + tail taken.0.kind
   pub shorter : part.start < taken.1.start
   pub end : taken.1.end ≡ part.end

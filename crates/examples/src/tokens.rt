@@ -3,12 +3,13 @@
 #![tactic(auto)]
 
 ghost use Rattle.std.specs.List.{flat_map};
-ghost use Rattle.std.specs.Prelude.{◌≡◌, ◌≢◌, ◌<◌, [], All, IfErr, IfOk, IfSome, MatchResult};
+ghost use Rattle.std.specs.Prelude.{◌≡◌, ◌≢◌, ◌<◌, [], All, IfErr, IfOk, IfSome};
+ghost use Rattle.std.specs.Prelude.{MatchResult, length};
 ghost use Rattle.std.proofs.Common.{rules};
 ghost use Rattle.ascii.specs.Trim.{IsSpan};
 ghost use Rattle.ascii.specs.View.{text_of};
 ghost use Rattle.ascii_formats.specs.Parts.{AreSidesOf, part_text};
-ghost use Rattle.examples.specs.Tokens.{IsErrorOf, IsTaken, IsTokenOf, token_text};
+ghost use Rattle.examples.specs.Tokens.{AreLaid, IsErrorOf, IsTaken, IsTokenOf, token_text};
 
 use ascii::classes::{ByRanges, Digit, Punctuation, Ranges, Searched, Whitespace};
 use ascii::{AsciiChar, AsciiStr, text};
@@ -105,6 +106,8 @@ pub type Line = ByRanges<LineRanges>;
 pub fn read_tokens<'a>(alloc: Global, text: AsciiStr<'a>) -> Result<Vec<Token<'a>>, TokenError<'a>>
     ensures joined { IfOk result (λ tokens. flat_map token_text tokens.items ≡ text_of text.entry) }
     ensures tokens { IfOk result (λ tokens. All (IsTokenOf text.entry) tokens.items) }
+    ensures places { IfOk result (λ tokens.
+        AreLaid 0 tokens.items (length (text_of text.entry))) }
     ensures fault { IfErr result (IsErrorOf text.entry) }
 {
     let mut tokens = Vec::new(alloc);
