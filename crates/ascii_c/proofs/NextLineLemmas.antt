@@ -23,15 +23,19 @@ module _ (text body : List ℕ) (end : ℕ) (ending : Ending) (some : end ≢ 0)
   body_is : body ≡ take (length body) text
   body_is = sym (ap (take (length body)) whole ∙ take-append_seam body _)
 
-  line_is : LinesOf (take end text) (record { body = take (length body) text; ending = ending } ∷ [])
-  line_is = subst (λ b. LinesOf (take end text) (record { body = b; ending = ending } ∷ [])) body_is line
+  abbrev HasBody : List ℕ → Type 0
+  HasBody b = LinesOf (take end text) (record { body = b; ending = ending } ∷ [])
+
+  line_is : HasBody (take (length body) text)
+  line_is = subst HasBody body_is line
 
   stops_there : (n : ℕ) → n ≤ length text → end ≡ n → IsFirstStop Any text n
       → IsFirstStop Any (take end text) (length (take end text))
   stops_there n inside is stops =
       let long : length (take end text) ≡ n = grind (arith, length-take-le) in
-      subst (IsFirstStop Any (take end text)) (sym long) (IsFirstStop-same Any text (take end text) n
-      (λ k low. sym (get_or-take end text k 0 (omega (arith, low, is)))) stops)
+      let there = IsFirstStop-same Any text (take end text) n
+      (λ k low. sym (get_or-take end text k 0 (omega (arith, low, is)))) stops in
+      subst (IsFirstStop Any (take end text)) (sym long) there
 
   pub first_line : (found : Option ℕ) → (MatchOption found (FreeUpTo Any text (length text))
       (λ n. (n ≤ length text) × IsFirstStop Any text n))

@@ -10,8 +10,8 @@ abbrev pub FindsOrEnd : List ℕ → List ℕ → ℕ → Type 0
 FindsOrEnd text needle i = FindsNeedle text needle 0 (Some i)
     ⊎ (FindsNeedle text needle 0 None × (i ≡ length text))
 
--- the first `next` bytes of the text are its first line, of which the first `body` bytes come before
--- the ending; if there is no ending, nothing comes after the line
+-- the first `next` bytes of the text are its first line, of which the first `body` come before the
+-- ending; if there is no ending, no byte comes after the line
 pub record IsFirstLine (text : List ℕ) (body next : ℕ) : Type 0 where
   pub some : 0 < next
   pub inside : next ≤ length text
