@@ -3,7 +3,7 @@
 
 use crate::calls::{mark, mixed};
 use ascii::classes::{Blank, Hexdigit, Token};
-use ascii::{AsciiChar, AsciiStr, AsciiString, Finder, FinderIgnoringCase, bytes};
+use ascii::{AnyFinder, AsciiChar, AsciiStr, AsciiString, Finder, FinderIgnoringCase, bytes};
 use ascii_formats::{AsciiStrExt, AsciiStringExt};
 use cookbook::identifiers::Identifier;
 use std::alloc::{AllocError, Global};
@@ -77,12 +77,7 @@ pub fn bench_grep(source: &[u8], needle: &[u8]) -> usize {
     let (Ok(text), Ok(needle)) = (bytes::as_ascii_str(source), bytes::as_ascii_str(needle)) else {
         return 0;
     };
-    let finder = Finder::new(needle);
-    let mut sum: usize = 0;
-    for line in text.lines_with(&finder) {
-        sum = mixed(sum, line.text.len());
-    }
-    sum
+    lines_found(text, &Finder::new(needle))
 }
 
 /// The lines of a text that contain another text, ignoring case.
@@ -90,9 +85,12 @@ pub fn bench_grep_ignoring_case(source: &[u8], needle: &[u8]) -> usize {
     let (Ok(text), Ok(needle)) = (bytes::as_ascii_str(source), bytes::as_ascii_str(needle)) else {
         return 0;
     };
-    let finder = FinderIgnoringCase::new(needle);
+    lines_found(text, &FinderIgnoringCase::new(needle))
+}
+
+fn lines_found<F: AnyFinder>(text: AsciiStr, finder: &F) -> usize {
     let mut sum: usize = 0;
-    for line in text.lines_with(&finder) {
+    for line in text.lines_with(finder) {
         sum = mixed(sum, line.text.len());
     }
     sum
