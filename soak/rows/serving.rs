@@ -136,9 +136,9 @@ fn fails_to_send(asked: &mut Asked, written: &str) {
     asked.want.fails(Needs::memory_if(!written.is_empty()), start, "");
 }
 
-/// A conversation that is fed with an input of up to ten bytes, in every cutting; and one whose source fails.
+/// A conversation that is fed with an input of up to twelve bytes, in every cutting; and one whose source fails.
 fn each_cutting(rows: &mut Rows) {
-    for (input, endings, why, written) in SESSIONS.into_iter().filter(|(input, ..)| input.len() <= 10) {
+    for (input, endings, why, written) in SESSIONS.into_iter().filter(|(input, ..)| input.len() <= 12) {
         for cuts in 0..1 << input.len() {
             rows.ask(|asked| {
                 calls::ask_fed(asked, endings, 8, input, &lengths(input.len(), cuts), 0);
