@@ -120,7 +120,9 @@ impl LineStep for LineSum {
     fn step(&mut self, line: ReadLine<'_>) {
         self.count += 1;
         let shifted = self.mixed.wrapping_mul(31).wrapping_add(line.start);
-        self.mixed = shifted.wrapping_mul(31).wrapping_add(line.text.len() as u64);
+        self.mixed = shifted
+            .wrapping_mul(31)
+            .wrapping_add(line.text.len() as u64);
     }
 }
 
