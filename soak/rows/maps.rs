@@ -22,8 +22,9 @@ pub static ROWS: &[Row] = &[
     }),
     ("many_keys_have_their_values", |rows| {
         let keys: Vec<String> = (0..5_000).map(|number| number.to_string()).collect();
-        let steps: Vec<(u8, &str)> =
-            keys.iter().flat_map(|key| [(INSERT, key.as_str()), (GET, key), (ADD, key)]).collect();
+        let added: Vec<String> = (0..10).map(|number| format!("key {number}")).collect();
+        let steps = keys.iter().flat_map(|key| [(INSERT, key.as_str()), (GET, key), (ADD, key)]);
+        let steps: Vec<(u8, &str)> = steps.chain(added.iter().map(|key| (ADD, key.as_str()))).collect();
         let Steps { texts, steps } = passed(&steps);
         rows.ask(|asked| {
             calls::ask_maps(asked, &texts, &steps);
@@ -33,6 +34,11 @@ pub static ROWS: &[Row] = &[
                 want.times(2, (3 * number, number + 1, false));
                 want.put((true, number + 1, false));
                 want.put((6 * number + 2, number + 1, false));
+            }
+            // A key that is not there gets its value before the same is added.
+            for number in 0..added.len() {
+                want.put((false, keys.len(), false));
+                want.put((2 * (3 * keys.len() + number), keys.len() + number + 1, false));
             }
             want.has_other_failures = true;
         });
