@@ -35,8 +35,8 @@ impl<'a> AsciiStr<'a> {
         short_search::first_needle(self.bytes, needle.bytes)
     }
 
-    /// Like `find`, but a needle of one character is found inline if it is near. For a search that is
-    /// repeated after each occurrence.
+    /// Like `find`, but one that is near is found without preparing a search, and inline if it has one
+    /// character. For a search that is repeated after each occurrence.
     #[inline(always)]
     pub(crate) fn find_near(self, needle: AsciiStr<'_>) -> Option<usize>
         ensures { FindsNeedle (text_of self.entry) (text_of needle.entry) 0 result }
@@ -44,7 +44,7 @@ impl<'a> AsciiStr<'a> {
         if needle.len() == 1 {
             find_first(needle.bytes[0], self.bytes)
         } else {
-            self.find(needle)
+            short_search::first_needle_near(self.bytes, needle.bytes)
         }
     }
 

@@ -1,10 +1,12 @@
 -- Where a needle is in a window of a text, and in the text.
-use Rattle.std.proofs.Common.{◌≡◌, ◌+◌, ◌-◌, ◌≤◌, ℕ, List, length, arith, drop, map, subst}
+use Rattle.std.proofs.Common.{◌≡◌, ◌+◌, ◌-◌, ◌<◌, ◌≤◌, ℕ, List, None, Some, length, arith, drop}
+use Rattle.std.proofs.Common.{map, subst}
 use Rattle.std.specs.List.{slice_range}
 use Rattle.std.proofs.lemmas.List.{drop-map, get_or-drop, get_or-take, length-drop, length-take}
 use Rattle.std.proofs.lemmas.List.{take-map}
-use Rattle.memchr.specs.Find.{NoneBefore, Nowhere, OccursAt}
-use Rattle.ascii_search.proofs.MasksLemmas.{nowhere_in_both}
+use Rattle.memchr.specs.Find.{FindsNeedle, NoneBefore, Nowhere, OccursAt}
+use Rattle.ascii_search.specs.Masks.{FindsBy, itself}
+use Rattle.ascii_search.proofs.MasksLemmas.{nowhere_in_both, same_finds}
 
 -- the image of a window is the window of the image
 pub image_of_window : (image : ℕ → ℕ) (hay : List ℕ) (start end : ℕ)
@@ -60,3 +62,37 @@ module _ (hay needle : List ℕ) (start end : ℕ) (order : start ≤ end) (insi
     },
     in_text found is.1,
   )
+
+-- a needle is searched for among the first bytes of a text, up to `end`, and then from the first
+-- position on at which it does not end there
+module _ (hay needle : List ℕ) (end : ℕ) (inside : end < length hay) where
+  pub found_near : (k : ℕ) → FindsBy itself (slice_range hay 0 end) needle (Some k)
+      → FindsNeedle hay needle 0 (Some k)
+  found_near k is =
+      let place : 0 + k ≡ k = omega arith in
+      subst (λ n. FindsNeedle hay needle 0 (Some n)) place
+      (first_in_window hay needle 0 end (omega arith) (omega (arith, inside)) 0
+      (omega arith) (λ at low high. omega (arith, high)) k
+      (same_finds (slice_range hay 0 end) needle (Some k) is))
+
+  module _ (fits : length needle ≤ end) (none : FindsBy itself (slice_range hay 0 end) needle None)
+    where
+      abbrev from : ℕ
+      from = end + 1 - length needle
+
+      not_near : Nowhere (OccursAt hay needle) 0 from
+      not_near = subst (Nowhere (OccursAt hay needle) 0) (omega (arith, fits))
+          (nowhere_in_window hay needle 0 end (omega arith) (omega (arith, inside)) 0 (omega arith)
+          (λ at low high. omega (arith, high)) (omega (arith, fits))
+          (same_finds (slice_range hay 0 end) needle None none))
+
+      pub found_far : (k : ℕ) → FindsNeedle (slice_range hay from (length hay)) needle 0 (Some k)
+          → FindsNeedle hay needle 0 (Some (from + k))
+      found_far k is = first_in_window hay needle from (length hay) (omega (arith, inside))
+          (omega arith) 0 (omega arith) not_near k is
+
+      pub found_nowhere : FindsNeedle (slice_range hay from (length hay)) needle 0 None
+          → FindsNeedle hay needle 0 None
+      found_nowhere not k low high occurs = let ends = occurs.fits in
+          nowhere_in_window hay needle from (length hay) (omega (arith, inside)) (omega arith) 0
+          (omega arith) not_near (omega (arith, fits, inside)) not k low (omega (arith, ends)) occurs

@@ -172,6 +172,25 @@ pub fn first_needle(hay: &[u8], needle: &[u8]) -> Option<usize>
     first_by_masks::<Exact>(hay, needle)
 }
 
+/// Returns the position of the first `needle` in `hay`, or `None` if there is none. One that is near is found without
+/// preparing a search, which pays if the search is repeated after each occurrence.
+pub fn first_needle_near(hay: &[u8], needle: &[u8]) -> Option<usize>
+    ensures { FindsNeedle hay.now needle.now 0 result }
+{
+    if hay.len() <= SHORT || needle.len() > SHORT {
+        return first_needle(hay, needle);
+    }
+    let (near, _) = hay.split_at(SHORT);
+    if let Some(place) = first_by_masks::<Exact>(near, needle) {
+        return Some(place);
+    }
+    let from = SHORT + 1 - needle.len();
+    match memmem::find(&hay[from..], needle) {
+        Some(place) => Some(from + place),
+        None => None,
+    }
+}
+
 /// Returns the position of the first `needle` in `hay`, ignoring ASCII case, or `None` if there is none.
 ///
 /// Takes linear time if the needle has at most 8,192 bytes. At worst a longer one is compared at each position.

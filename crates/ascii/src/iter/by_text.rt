@@ -38,7 +38,7 @@ impl<'n> Cut for AtText<'n> {
         if self.needle.is_empty() {
             return Some((part.piece(), None, ()));
         }
-        match part.view.find(self.needle) {
+        match part.view.find_near(self.needle) {
             Some(at) => Some((
                 part.to(at).piece(),
                 Some(part.from(at + self.needle.len())),
@@ -81,7 +81,7 @@ impl<'n> Cut for AtMatches<'n> {
         if self.needle.is_empty() {
             return None;
         }
-        let at = part.view.find(self.needle)?;
+        let at = part.view.find_near(self.needle)?;
         let found = part.from(at).to(self.needle.len());
         Some((found.piece(), Some(part.from(at + self.needle.len())), ()))
     }
