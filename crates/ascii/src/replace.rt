@@ -28,17 +28,30 @@ impl AsciiStr<'_> {
             Replaces (text_of from.entry) (text_of to.entry) (text_of self.entry) copy.text) }
         ensures empty { text_of self.entry ≡ [] → IsOk result }
     {
+        let mut copy = AsciiString::new(alloc);
         if self.is_empty() {
-            return Ok(AsciiString::new(alloc));
+            return Ok(copy);
         }
-        let mut copy = AsciiString::with_capacity(alloc, self.len())?;
         let mut rest = self;
         while let Some(at) = rest.find_near(from) {
+            if copy.is_empty() {
+                copy.reserve(self.room_for(from, to))?;
+            }
             copy.push_str(rest.slice(AsciiRange::To(at)))?;
             copy.push_str(to)?;
             rest = rest.slice(AsciiRange::From(at + from.len()));
         }
         copy.push_str(rest)?;
         Ok(copy)
+    }
+
+    /// How many bytes a copy is given at first: for a longer text in place of another twice as many as
+    /// the view has, since the copy grows past these.
+    fn room_for(self, from: AsciiStr<'_>, to: AsciiStr<'_>) -> usize {
+        if to.len() > from.len() {
+            self.len().saturating_mul(2)
+        } else {
+            self.len()
+        }
     }
 }
