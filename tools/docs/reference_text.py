@@ -11,6 +11,7 @@ import callers
 import equal
 import examples
 import sentences
+from definitions import used_words
 from items import Wrong
 from made import LIBRARIES, TOP, first_sentence, modules_of, settle, wants
 from meanings import words_in
@@ -150,11 +151,16 @@ def note_words(texts, words, bounds=""):
     for word, it in found.items():
         if it.file.startswith("crates/") and word not in USUAL:
             IMPORTED.setdefault(it.file, {})[word] = it
+    for module, names in map(used_words, words or ()):
+        if module.startswith("Rattle.std."):
+            IMPORTED.setdefault(module, {}).update({it: None for it, _ in names if it.isidentifier() and it in found})
 
 
 def imported_lines(crate):
-    """The words of the clauses of a page, by the modules that import them."""
-    lines = [f"- {module_link(file, crate)}: {', '.join(f'`{word}`' for word in words)}" for file, words in IMPORTED.items()]
+    """The words of the clauses of a page, by the modules that import them: those of this repository, then those of std."""
+    of_std = lambda place: place.startswith("Rattle.")  # noqa: E731
+    named = {place: ", ".join(f"`{word}`" for word in words) for place, words in IMPORTED.items() if words}
+    lines = [f"- {f'`{it}`' if of_std(it) else module_link(it, crate)}: {named[it]}" for it in sorted(named, key=of_std)]
     return ["## Modules of the words of the clauses", "", *lines, ""] if lines else []
 
 
