@@ -16,7 +16,8 @@
 //! Nothing here allocates.
 
 ghost use Rattle.std.specs.Prelude.{◌≡◌, Bool, ◌+◌, ◌*◌, ◌^◌, ◌-◌, ◌<◌, ◌≤◌};
-ghost use Rattle.std.specs.Prelude.{MatchOption, MatchResult};
+ghost use Rattle.std.specs.Prelude.{MatchOption, MatchResult, SomeIff};
+ghost use Rattle.std.specs.Char.{digit_value};
 ghost use Rattle.ascii_formats.specs.Numbers.{IsFaultIn, LeadsWithNumber, NumberRange};
 ghost use Rattle.ascii_formats.specs.Numbers.{has_sign};
 ghost use Rattle.ascii_formats.specs.Numbers.{signed_up_to, unsigned_up_to};
@@ -373,13 +374,46 @@ pub(crate) fn leading_number<N: Number>(
 {
     let mut number = N::zero();
     for position in usize::from(minus)..view.len() {
-        let Some(digit) = char::from(view.as_bytes()[position]).to_digit(radix.into()) else {
+        let Some(digit) = digit_of(view.as_bytes()[position], radix) else {
             return Ok((number, position));
         };
-        let Some(longer) = number.with_digit(minus, radix, digit as u8) else {
+        let Some(longer) = number.with_digit(minus, radix, digit) else {
             return Err(position);
         };
         number = longer;
     }
     Ok((number, view.len()))
+}
+
+/// The digit that a byte is in a radix, in either case, or `None`. A letter or a decimal digit is told without a branch,
+/// which the order of digits in a number would make a guess.
+#[inline(always)]
+fn digit_of(byte: u8, radix: u8) -> Option<u8>
+    requires { radix ≤ 36 }
+    ensures { SomeIff result (digit_value byte < radix) (digit_value byte) }
+{
+    let decimal = byte.wrapping_sub(b'0');
+    let digit = if decimal < 10 || radix <= 10 {
+        decimal
+    } else {
+        letter_digit(byte)
+    };
+    if digit < radix { Some(digit) } else { None }
+}
+
+/// The digit that a letter is, in either case, and 36 for another byte.
+#[inline(always)]
+fn letter_digit(byte: u8) -> u8
+    requires { ¬ ((48 ≤ byte) × (byte < 58)) }
+    ensures { result ≡ digit_value byte }
+{
+    let upper = byte.wrapping_sub(b'A');
+    let lower = byte.wrapping_sub(b'a');
+    if upper < 26 {
+        upper + 10
+    } else if lower < 26 {
+        lower + 10
+    } else {
+        36
+    }
 }
