@@ -1,6 +1,8 @@
 -- The options of the program: the task that the words of a call ask for.
-use Rattle.std.specs.Prelude.{◌≡◌, ◌≢◌, ◌⊎◌, ℕ, ◌^◌, ◌-◌, ◌<◌, ◌≤◌, List, [], codes, length}
-use Rattle.std.specs.Prelude.{Bool, true, false, if◌then◌else◌, option_map, unwrap_or}
+use Rattle.std.specs.Prelude.{◌≡◌, ◌≢◌, ◌⊎◌, ◌↔◌, ℕ, ◌^◌, ◌-◌, ◌<◌, ◌≤◌, List, [], codes}
+use Rattle.std.specs.Prelude.{length}
+use Rattle.std.specs.Prelude.{Bool, true, false, if◌then◌else◌, map, nat_lt, option_map}
+use Rattle.std.specs.Prelude.{unwrap_or}
 use Rattle.std.specs.Borrow.{Bor}
 use Rattle.std.specs.declared.result.Result.{Result}
 use Rattle.std.specs.declared.result.Result.TheVariants.{Ok, Err}
@@ -16,13 +18,27 @@ use Rattle.ascii_filter.specs.declared.options.Task.TheVariants.{Filter, Check}
 
 -- the task writes nothing
 abbrev pub IsQuiet : Task → Type 0
-IsQuiet (Filter mode) = ⊥
+IsQuiet (Filter mode is_replacing) = ⊥
 IsQuiet (Check check) = check.is_quiet ≡ true
 
 -- the task writes names for machines
 abbrev pub IsNull : Task → Type 0
-IsNull (Filter mode) = ⊥
+IsNull (Filter mode is_replacing) = ⊥
 IsNull (Check check) = check.is_null ≡ true
+
+-- a byte, or `?` if it is above 127
+unfoldable pub replaced : ℕ → ℕ
+replaced byte = if nat_lt byte 128 then byte else 63
+
+-- the task reads each byte above 127 as `?`
+abbrev pub IsReplacing : Task → Type 0
+IsReplacing (Filter mode is_replacing) = is_replacing ≡ true
+IsReplacing (Check check) = ⊥
+
+-- the bytes that a task is given of an input, if the input's are known
+abbrev pub given_to : Task → Option (List ℕ) → Option (List ℕ)
+given_to (Filter mode true) bytes = option_map (map replaced) bytes
+given_to other bytes = bytes
 
 -- a flag is as its value says, and not set if it has none
 abbrev pub IsFlagOf : Option (List ℕ) → Bool → Type 0
@@ -39,6 +55,7 @@ pub record AreOptionsOf (found : Found) (options : Options) : Type 0 where
   pub quiet : IsFlagOf (one_text found (codes "quiet")) options.is_quiet
   pub null : IsFlagOf (one_text found (codes "null")) options.is_null
   pub max : one_text found (codes "max") ≡ None → options.max ≡ None
+  pub other : options.other.now ≡ unwrap_or (first_value found (codes "other")) []
 
 -- no option of `check` was set
 abbrev pub HasNoOptionOfCheck : Options → Type 0
@@ -48,18 +65,22 @@ HasNoOptionOfCheck options =
 
 -- the outcome of the options: the task, or the line that says what is wrong with them
 abbrev pub TaskOutcome : Options → Result Task (Bor (List ℕ)) → Type 0
-TaskOutcome options (Ok (Filter mode)) =
+TaskOutcome options (Ok (Filter mode is_replacing)) =
     (options.mode.now ≡ bounded_name mode) × HasNoOptionOfCheck options
+    × ((is_replacing ≡ true) ↔ (options.other.now ≡ codes "replace"))
     × (mode ≡ Json → options.files ≤ 1)
 TaskOutcome options (Ok (Check check)) =
-    (options.mode.now ≡ codes "check") × (check.is_count ≡ options.is_count)
+    (options.mode.now ≡ codes "check") × (options.other.now ≢ codes "replace")
+    × (check.is_count ≡ options.is_count)
     × (check.is_quiet ≡ options.is_quiet) × (check.is_null ≡ options.is_null)
     × (check.most ≡ if options.is_quiet then 1 else unwrap_or options.max (2 ^ 64 - 1))
 TaskOutcome options (Err line) =
     ((line.now ≡ codes "ascii_filter: there is no such mode\n")
     × (options.mode.now ≢ codes "check") × ¬ (IsBoundedName options.mode.now))
+    ⊎ (((line.now ≡ codes "ascii_filter: --other is no option of check\n")
+    × (options.mode.now ≡ codes "check") × (options.other.now ≡ codes "replace"))
     ⊎ (((line.now ≡ codes "ascii_filter: --count, --max, --null and --quiet are options of check\n")
     × IsBoundedName options.mode.now × ¬ (HasNoOptionOfCheck options))
     ⊎ ((line.now ≡ codes "ascii_filter: json takes one input\n")
     × (options.mode.now ≡ bounded_name Json) × HasNoOptionOfCheck options
-    × (1 < options.files)))
+    × (1 < options.files))))

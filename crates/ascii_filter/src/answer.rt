@@ -54,7 +54,7 @@ pub fn run_task<S: Source, K: Sink>(
         → S.failures reader.new ≡ S.failures reader.old + 1 }
 {
     match task {
-        Task::Filter(mode) => Answer {
+        Task::Filter { mode, .. } => Answer {
             found: 0,
             outcome: bounded_engine(alloc, mode, reader, writer),
         },

@@ -7,6 +7,7 @@ ghost use Rattle.std.specs.declared.result.Result.TheVariants.{Err};
 ghost use Rattle.ascii_devices.specs.States.{Takes};
 ghost use Rattle.ascii_devices.specs.Wrapped.{input_failures};
 ghost use Rattle.ascii_filter.specs.Checked.{IsAnswer};
+ghost use Rattle.ascii_filter.specs.Options.{given_to};
 ghost use Rattle.ascii_filter.specs.Status.{IsFailureOf, IsVisit};
 ghost use Rattle.ascii_filter.specs.declared.answer.Answer.{Answer};
 
@@ -14,6 +15,7 @@ use crate::answer::{Answer, run_task};
 use crate::failure::{Failure, Verdict};
 use crate::names::is_text;
 use crate::options::Task;
+use crate::replaced::Replaced;
 use ascii_devices::{Input, Sink};
 use ascii_run::BoundedFault;
 use std::alloc::Global;
@@ -68,14 +70,37 @@ pub fn run_file<K: Sink>(
         if output.is_some() && id_of(fs::metadata(rt, "/dev/stdin")) == output {
             return Verdict::failed(Failure::IsOutput);
         }
-        return run_input(rt.alloc(), task, label, rt.reader(), writer);
+        return run_decoded(rt.alloc(), task, label, rt.reader(), writer);
     }
     match fs::open(rt, word) {
         Ok(file) if output.is_some() && id_of(file.metadata()) == output => {
             Verdict::failed(Failure::IsOutput)
         }
-        Ok(file) => run_input(rt.alloc(), task, label, file, writer),
+        Ok(file) => run_decoded(rt.alloc(), task, label, file, writer),
         Err(error) => Verdict::failed(Failure::Input(error)),
+    }
+}
+
+/// Carries out the task on an input, of which each byte above 127 is `?` if the task says so.
+fn run_decoded<I: io::Read + Drop, K: Sink>(
+    alloc: Global,
+    task: Task,
+    label: &[u8],
+    input: I,
+    writer: &mut K,
+) -> Verdict
+    requires { K.failures writer.old < u64.MAX }
+    ensures { (given took : List ℕ) × (rest : Option (List ℕ)) × (answer : Answer)
+        × Consumes (given_to task (I.remaining input)) rest given
+        × Takes K.Sink writer.old writer.new took
+        × IsAnswer task label.now answer given (IsAtEnd rest) took
+        (K.failures writer.old) (K.failures writer.new)
+        × (result.found ≡ answer.found) × IsFailureOf answer.outcome result.failure }
+{
+    if task.is_replacing() {
+        run_input(alloc, task, label, Replaced { reader: input }, writer)
+    } else {
+        run_input(alloc, task, label, input, writer)
     }
 }
 

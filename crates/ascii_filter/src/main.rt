@@ -11,6 +11,7 @@ mod inputs;
 mod names;
 mod options;
 mod quoted;
+mod replaced;
 mod scanner;
 
 use ascii_devices::{Output, Sink, zeros};

@@ -2,7 +2,8 @@
 
 ghost use Rattle.std.specs.Prelude.{◌≡◌, ◌↔◌, IsTrue};
 ghost use Rattle.clap.specs.Words.{found_of};
-ghost use Rattle.ascii_filter.specs.Options.{AreOptionsOf, IsNull, IsQuiet, TaskOutcome};
+ghost use Rattle.ascii_filter.specs.Options.{AreOptionsOf, IsNull, IsQuiet, IsReplacing};
+ghost use Rattle.ascii_filter.specs.Options.{TaskOutcome};
 
 use ascii_run::BoundedMode;
 use clap::builder::ValueParser;
@@ -14,6 +15,9 @@ pub const STANDARD_INPUT: &str = "(standard input)";
 
 /// The name of the mode that names each non-ASCII byte. The others are those of the library.
 const CHECK: &str = "check";
+
+/// What `--other` names: a byte above 127 ends the input of a mode that takes only ASCII, or is read as `?`.
+const OTHERS: [&str; 2] = ["stop", "replace"];
 
 /// What `check` writes of each input.
 #[derive(Clone, Copy)]
@@ -32,7 +36,12 @@ pub struct Check {
 #[derive(Clone, Copy)]
 pub enum Task {
     /// The output of a mode is written.
-    Filter(BoundedMode),
+    Filter {
+        /// The mode.
+        mode: BoundedMode,
+        /// Whether each byte above 127 is read as `?`.
+        is_replacing: bool,
+    },
     /// Each non-ASCII byte is named.
     Check(Check),
 }
@@ -51,6 +60,19 @@ impl Task {
     {
         matches!(self, Task::Check(Check { is_null: true, .. }))
     }
+
+    /// Returns `true` if each byte above 127 is read as `?`.
+    pub fn is_replacing(self) -> bool
+        ensures { IsTrue result ↔ IsReplacing self }
+    {
+        matches!(
+            self,
+            Task::Filter {
+                is_replacing: true,
+                ..
+            }
+        )
+    }
 }
 
 /// What the words of a call name.
@@ -68,6 +90,8 @@ pub struct Options<'a> {
     pub is_null: bool,
     /// The number after `--max`.
     pub max: Option<u64>,
+    /// The word after `--other`, or nothing.
+    pub other: &'a str,
 }
 
 /// The options among the parsed arguments. The number after `--max` is the one that `clap` reads.
@@ -81,6 +105,7 @@ pub fn options_of<'a>(matches: &ArgMatches<'a>) -> Options<'a>
         is_quiet: matches.get_flag("quiet"),
         is_null: matches.get_flag("null"),
         max: matches.get_one::<u64>("max"),
+        other: matches.get_str("other").unwrap_or_default(),
     }
 }
 
@@ -95,7 +120,11 @@ pub fn task_of(options: Options<'_>) -> Result<Task, &'static str>
         max,
         ..
     } = options;
+    let is_replacing = options.other == OTHERS[1];
     if options.mode == CHECK {
+        if is_replacing {
+            return Err("ascii_filter: --other is no option of check\n");
+        }
         let most = if is_quiet { 1 } else { max.unwrap_or(u64::MAX) };
         return Ok(Task::Check(Check {
             most,
@@ -113,7 +142,7 @@ pub fn task_of(options: Options<'_>) -> Result<Task, &'static str>
     if mode == BoundedMode::Json && options.files > 1 {
         return Err("ascii_filter: json takes one input\n");
     }
-    Ok(Task::Filter(mode))
+    Ok(Task::Filter { mode, is_replacing })
 }
 
 /// The names of the modes, in the order of the help.
@@ -140,7 +169,7 @@ Modes:
   check   A line for each byte above 127: the file, the line, the column and the byte
 
 Exit status:
-  0  Every input was ASCII, or the mode takes any bytes
+  0  Every input was ASCII, or the mode takes any bytes, or they are replaced
   1  An input has a byte above 127
   2  The arguments are not a call; nothing was read
   3  An input could not be read, or is the output; a write failed; or there was no memory
@@ -148,8 +177,9 @@ Exit status:
 Of several, the status is the highest. A pipe that its reader has closed counts as nothing.
 
 Examples:
-  ascii_filter check -m 1 *.txt     The first byte above 127 of each file
-  ascii_filter lossy old.txt > new  A copy with `?` for each byte above 127";
+  ascii_filter check -m 1 *.txt      The first byte above 127 of each file
+  ascii_filter lossy old.txt > new   A copy with `?` for each byte above 127
+  ascii_filter --other=replace json  Such a copy of standard input as a JSON string";
 
 /// The command line of the program, with these names of modes.
 pub fn command<'a>(alloc: Global, names: &'a [&'a str]) -> Result<Command<'a>, AllocError> {
@@ -184,6 +214,12 @@ pub fn command<'a>(alloc: Global, names: &'a [&'a str]) -> Result<Command<'a>, A
         .long("null")
         .action(ArgAction::SetTrue)
         .help("check: write NUL in place of the colon after each name, and quote no name");
+    let other = Arg::new(alloc, "other")
+        .long("other")
+        .value_name("WHAT")
+        .action(ArgAction::Set)
+        .value_parser(OTHERS.as_slice())
+        .help("The other modes: what a byte above 127 is, the end of what is written or `?`");
     Command::new(alloc, "ascii_filter")
         .version("0.1.0")
         .about("Writes ASCII inputs of any length in one of several modes")
@@ -193,5 +229,6 @@ pub fn command<'a>(alloc: Global, names: &'a [&'a str]) -> Result<Command<'a>, A
         .arg(count)?
         .arg(max)?
         .arg(quiet)?
-        .arg(null)
+        .arg(null)?
+        .arg(other)
 }
