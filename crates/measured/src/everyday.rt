@@ -38,13 +38,11 @@ pub fn bench_strict_headers(source: &[u8]) -> usize {
     };
     let mut sum: usize = 0;
     for line in text.lines() {
-        let Some((name, value)) = line.split_once(AsciiChar::Colon) else {
+        // The token ends at the colon.
+        let (name, rest) = line.span::<Token>();
+        let Some(value) = rest.strip_prefix(AsciiStr::literal(":")) else {
             return sum;
         };
-        let (_, rest) = name.span::<Token>();
-        if !rest.is_empty() {
-            return sum;
-        }
         let value = value.trim_matches::<Blank>();
         sum = mixed(mixed(sum, name.len()), value.len());
     }
@@ -102,8 +100,10 @@ pub fn bench_lookup(source: &[u8], name: &[u8]) -> usize {
         return 0;
     };
     for line in text.lines() {
-        if let Some((name, value)) = line.split_once(AsciiChar::Colon)
-            && name.eq_ignore_ascii_case(wanted)
+        // The colon of the wanted name has one place.
+        if line.get_ascii(wanted.len()) == Some(AsciiChar::Colon)
+            && let Some(rest) = line.strip_prefix_ignore_ascii_case(wanted)
+            && let Some(value) = rest.strip_prefix(AsciiStr::literal(":"))
         {
             return value.trim().len();
         }
@@ -166,11 +166,19 @@ pub fn bench_table(source: &[u8]) -> usize {
     };
     let mut sum: usize = 0;
     for line in text.lines() {
-        for field in line.split(AsciiChar::Comma) {
-            let Ok(number) = field.to_number::<u32>() else {
+        let Ok((number, mut rest)) = line.take_number::<u32>() else {
+            return 0;
+        };
+        sum = sum.wrapping_add(number as usize);
+        'fields: while let Some(fields) = rest.strip_prefix(AsciiStr::literal(",")) {
+            let Ok((number, others)) = fields.take_number::<u32>() else {
                 return 0;
             };
             sum = sum.wrapping_add(number as usize);
+            rest = others;
+        }
+        if !rest.is_empty() {
+            return 0;
         }
     }
     sum
@@ -228,7 +236,7 @@ pub fn bench_settings(source: &[u8]) -> usize {
         let Some((name, value)) = line.split_once(AsciiChar::Equal) else {
             return 0;
         };
-        sum = mixed(mixed(sum, name.trim().len()), value.trim().len());
+        sum = mixed(mixed(sum, name.trim_end().len()), value.trim_start().len());
     }
     sum
 }
@@ -240,8 +248,7 @@ pub fn bench_digests(source: &[u8]) -> usize {
     };
     let mut count: usize = 0;
     for line in text.lines() {
-        let (digits, rest) = line.span::<Hexdigit>();
-        if digits.len() == 32 && rest.is_empty() {
+        if line.len() == 32 && line.is_all::<Hexdigit>() {
             count = count.wrapping_add(1);
         }
     }
