@@ -10,7 +10,8 @@ use Rattle.ascii.specs.declared.iter.spans.Ending.{Ending}
 use Rattle.ascii.specs.declared.iter.spans.Endings.{Endings}
 use Rattle.ascii_devices.specs.Devices.{received_of}
 use Rattle.ascii_lines.specs.Exchanges.{IsReplier, Runs, inputs_of, said_in}
-use Rattle.ascii_lines.specs.Replies.{Reply, Step, rejected, reply_bytes, reply_text, skipped, took}
+use Rattle.ascii_lines.specs.Replies.{Reply, Step, rejected, reply_bytes, reply_text, sent_out}
+use Rattle.ascii_lines.specs.Replies.{skipped, took}
 use Rattle.ascii_lines.specs.Serve.{ChannelState, RepliesToAll, Serves, Talk, first_place}
 use Rattle.ascii_lines.specs.Turns.{IsTurnAt, Place, Turns, awaited_by, is_ended, place_of}
 use Rattle.ascii_lines.specs.declared.conversation.Awaited.TheVariants.{Input, Nothing}
@@ -102,6 +103,7 @@ module _ {H : Type 0} (answers : H → Line → List Reply → Next → H → Ty
           }
       go (rejected error said) then t = grind (arith, over)
       go (skipped bytes) then t = grind (arith, over, LinesEndedBy-nil)
+      go sent_out then t = absurd t
 
 module _ {H : Type 0} (answers : H → Line → List Reply → Next → H → Type 0)
     (refuses : H → LineError → List Reply → Next → H → Type 0) (reply : Line → Reply)

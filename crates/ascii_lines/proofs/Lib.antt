@@ -10,5 +10,6 @@ pub mod TurnsLemmas
 pub mod WriteBufferLemmas
 pub mod WantedLemmas
 pub mod SkippingLemmas
+pub mod SendingLemmas
 pub mod ServeLemmas
 pub mod StepLemmas

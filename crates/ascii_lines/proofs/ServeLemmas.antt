@@ -1,5 +1,6 @@
 -- A conversation over a device: steps, writes and reads, one after another.
-use Rattle.std.proofs.Common.{◌≡◌, ◌≢◌, ◌⊎◌, ◌∙◌, ℕ, ◌+◌, ◌-◌, ◌^◌, ◌<◌, List, [], ◌∷◌, ◌++◌, Bool}
+use Rattle.std.proofs.Common.{◌≡◌, ◌≢◌, ◌⊎◌, ◌∙◌, ℕ, ◌+◌, ◌-◌, ◌*◌, ◌^◌, ◌<◌, ◌≤◌, List, [], ◌∷◌}
+use Rattle.std.proofs.Common.{◌++◌, Bool}
 use Rattle.std.proofs.Common.{Err, None, Ok, Some, ap, append_assoc, append-nil, arith, false, inl}
 use Rattle.std.proofs.Common.{inr, length, length-append, refl, subst, sym, true, ◌==◌}
 use Rattle.std.proofs.KnownBytes.{Appends-nil, Appends-trans}
@@ -17,19 +18,21 @@ use Rattle.ascii_devices.specs.Devices.{Aside, Grows, read_of, received_of, sent
 use Rattle.ascii_devices.specs.States.{Gives, SourceState, of_state}
 use Rattle.ascii_devices.specs.declared.log.Event.{Event}
 use Rattle.ascii_devices.specs.declared.log.Event.TheVariants.{Flushed, Read}
-use Rattle.ascii_lines.specs.Exchanges.{bytes_of, said_in}
+use Rattle.ascii_lines.specs.Exchanges.{SendsNothing, bytes_of, said_in}
 use Rattle.ascii_lines.specs.History.{AreWrites, EndsInEmptyRead, TellsSent}
 use Rattle.ascii_lines.specs.LineBuffer.{ReadsOnce}
 use Rattle.ascii_lines.specs.LineWriter.{Flushes, FlushesFrom}
-use Rattle.ascii_lines.specs.Replies.{Reply, SaysBytes, Saying, Step, reply_bytes}
-use Rattle.ascii_lines.specs.Serve.{AtEachRead, ChannelState, CountsBy, IsAnswered, IsFlushed}
+use Rattle.ascii_lines.specs.Replies.{Reply, SaysBytes, Saying, Step, reply_bytes, sent_out}
+use Rattle.ascii_lines.specs.Serve.{AreSentFirst, AtEachRead, AtEachSending, ChannelState}
+use Rattle.ascii_lines.specs.Serve.{CountsBy, GoesOn, IsAnswered, IsFlushed}
 use Rattle.ascii_lines.specs.Serve.{IsRead, IsUnread, IsUp, ReadsOn, SendsOut, SentBy, Serves}
 use Rattle.ascii_lines.specs.Serve.{SoFar, Talk, Wrote, first_place, read_side, Conversing}
 use Rattle.ascii_lines.specs.Serve.{saying_of, writing_of}
-use Rattle.ascii_lines.specs.Turns.{OnlyMoves, Converses, IsOver, Lacks, Place, TalkState, Turns}
+use Rattle.ascii_lines.specs.Turns.{OnlyMoves, Converses, IsOver, Lacks, Place}
+use Rattle.ascii_lines.specs.Turns.{TalkState, Turns}
 use Rattle.ascii_lines.specs.Turns.{is_ended, place_of, place_with, stop_of, supply_at, with_more}
 use Rattle.ascii_lines.specs.declared.conversation.Awaited.{Awaited}
-use Rattle.ascii_lines.specs.declared.conversation.Awaited.TheVariants.{Input, Nothing}
+use Rattle.ascii_lines.specs.declared.conversation.Awaited.TheVariants.{Input, Nothing, Sending}
 use Rattle.ascii_lines.specs.declared.conversation.Supply.{Supply}
 use Rattle.ascii_lines.specs.declared.conversation.Supply.TheVariants as supply
 use Rattle.ascii_lines.specs.declared.line_reader.LineError.{LineError}
@@ -41,6 +44,8 @@ use Rattle.ascii_lines.specs.declared.serving.Stop.TheVariants as stop
 use Rattle.ascii_lines.proofs.GathersLemmas.{is_none, is_some}
 use Rattle.ascii_lines.proofs.HistoryLemmas.{AreWrites-append, AreWrites-sent, AtEachRead-append}
 use Rattle.ascii_lines.proofs.HistoryLemmas.{AtEachRead-received, AtEachRead-writes}
+use Rattle.ascii_lines.proofs.SendingLemmas.{AtEachSending-last, AtEachSending-more}
+use Rattle.ascii_lines.proofs.SendingLemmas.{AtEachSending-then, sends_take}
 use Rattle.ascii_lines.proofs.HistoryLemmas.{IsFlushed-after, IsFlushed-last, received_of-bytes}
 use Rattle.ascii_lines.proofs.HistoryLemmas.{received_of-writes, sent_of-bytes}
 use Rattle.ascii_lines.proofs.TurnsLemmas.{Turns-append, Turns-bytes, Turns-more, said-append}
@@ -69,23 +74,42 @@ by_supply : {P R : Type 0} (now : Supply) → (now ≢ supply.Failed → P)
     → (now ≡ supply.Failed → R) → P ⊎ ((now ≡ supply.Failed) × R)
 by_supply now kept unread = grind arith
 
--- ---- how long a server may read
+-- a conversation that goes on awaits more bytes, or that the replies are sent
+going_by : (now : Supply) (awaited : Awaited) (is_at_end : Bool)
+    → (now ≡ supply.Open) ⊎ IsOver awaited ⊎ (awaited ≡ Sending) → is_ended now ≡ is_at_end
+    → (now ≡ supply.Failed → (why : Stop) × (awaited ≡ Nothing why) × IsUnread why)
+    → (now ≡ supply.Open) ⊎ IsOver awaited
+    ⊎ ((awaited ≡ Sending) × (now ≡ supply_at is_at_end))
+going_by now awaited is_at_end closed ended unread = grind arith
+
+-- ---- how long a server may go on
 
 -- how many bytes may come until the position is too far
 abbrev pub read_room : TalkState → ℕ
 read_room talk = (2 ^ 64 + talk.size + 2) - (talk.start + length talk.held)
 
-abbrev pub reads_of : Awaited → TalkState → ℕ
-reads_of (Nothing why) talk = 0
-reads_of awaited talk = read_room talk
+-- how many bytes may come, and how many may be taken
+abbrev pub calls_room : TalkState → ℕ
+calls_room talk = 2 * (read_room talk + (2 ^ 64 - talk.start))
 
--- a measure of what is left to read: none, if the conversation is over
-abbrev pub reads_left : TalkState → ℕ
-reads_left talk = reads_of talk.awaited talk
+abbrev pub calls_of : Awaited → TalkState → ℕ
+calls_of (Nothing why) talk = 0
+calls_of Sending talk = calls_room talk + 1
+calls_of awaited talk = calls_room talk
 
-reads_all : (awaited : Awaited) (talk : TalkState) → ¬ (IsOver awaited)
-    → reads_of awaited talk ≡ read_room talk
-reads_all awaited talk apart = grind arith
+-- a measure of what is left to read and to send: nothing, if the conversation is over
+abbrev pub calls_left : TalkState → ℕ
+calls_left talk = calls_of talk.awaited talk
+
+calls_all : (awaited : Awaited) (talk : TalkState) → ¬ (IsOver awaited) → awaited ≢ Sending
+    → calls_of awaited talk ≡ calls_room talk
+calls_all awaited talk apart waits = grind arith
+
+-- what is left is as much as there is room for, and one more if the replies are to be sent first
+calls_most : (awaited : Awaited) (talk : TalkState)
+    → (calls_of awaited talk ≤ calls_room talk)
+    ⊎ ((awaited ≡ Sending) × (calls_of awaited talk ≡ calls_room talk + 1))
+calls_most awaited talk = grind arith
 
 -- why a conversation is over, or that it is not
 pub stop_is : (awaited : Awaited) (why : Stop) → stop_of awaited ≡ Some why
@@ -127,6 +151,7 @@ module _ {H : Type 0} (answers : H → Line → List Reply → Next → H → Ty
         steps place
     pub grows : Grows old.output.history output.history events
     pub prompt : AtEachRead Answered [] events
+    pub ordered : AtEachSending (AreSentFirst old events) [] steps
     pub gave : Gives of_state (read_side old.output) (read_side output) (received_of events)
     pub took : Appends old.output.taken output.taken (sent_of events)
     pub sent : SentBy output.buffer.is_broken (sent_of events) output.buffer.bytes
@@ -143,6 +168,7 @@ module _ {H : Type 0} (answers : H → Line → List Reply → Next → H → Ty
     turns = refl;
     grows = Grows-nil old.output.history;
     prompt = tt;
+    ordered = tt;
     gave = Gives-nil of_state (read_side old.output);
     took = Appends-nil old.output.taken;
     sent = rw whole (sym (append-nil old.output.buffer.bytes));
@@ -158,6 +184,7 @@ module _ {H : Type 0} (answers : H → Line → List Reply → Next → H → Ty
       → Turns answers refuses endings size then
       (first_place old handler (received_of (o.events ++ events))) steps new
       → Grows a.history b.history events → AtEachRead Answered o.events events
+      → AtEachSending (AreSentFirst old (o.events ++ events)) [] steps
       → Gives of_state (read_side old.output) (read_side b) (received_of (o.events ++ events))
       → Appends a.taken b.taken (sent_of events)
       → SentBy b.buffer.is_broken (sent_of events) b.buffer.bytes
@@ -165,7 +192,8 @@ module _ {H : Type 0} (answers : H → Line → List Reply → Next → H → Ty
       → CountsBy b.buffer.is_broken a.failures b.failures
       → (is_ended then ≡ true → (old.talk.is_at_end ≡ true) ⊎ EndsInEmptyRead (o.events ++ events))
       → (then ≢ supply.Failed → b.aside.failures ≡ old.output.aside.failures) → Base then new b
-  base-more a b o whole steps more events said turns grows prompt gave took sent count at_end kept =
+  base-more a b o whole steps more events said turns grows prompt ordered gave took sent count at_end
+      kept =
       grind (
         arith,
         Grows-trans,
@@ -178,32 +206,34 @@ module _ {H : Type 0} (answers : H → Line → List Reply → Next → H → Ty
 
   -- writes, for the replies to more steps
   base-writes : {now : Supply} {mid new : Place H} (a b : OutputState) → Base now mid a
-      → a.buffer.is_broken ≡ false → (more : List Step)
+      → a.buffer.is_broken ≡ false → (more : List Step) → SendsNothing more
       → Turns answers refuses endings size now mid more new → (sent : List ℕ)
       → TellsSent a.history b.history sent
       → SentBy b.buffer.is_broken sent b.buffer.bytes
       (a.buffer.bytes ++ reply_bytes old.ending (said_in more))
       → CountsBy b.buffer.is_broken a.failures b.failures
       → Appends a.taken b.taken sent → b.aside ≡ a.aside → Base now new b
-  base-writes {now} {mid} {new} a b o whole more turns sent told held count took aside =
+  base-writes {now} {mid} {new} a b o whole more unsent turns sent told held count took aside =
       let same : received_of (o.events ++ told.events) ≡ received_of o.events =
       grind (arith, received_of-append, received_of-writes, append-nil) in
       base-more a b o whole (o.steps ++ more) (said_in more) told.events (said-append o.steps more)
       (grind (arith, Turns-append))
       told.grows (AtEachRead-writes Answered o.events told.events told.writes)
+      (AtEachSending-more old o.events told.events [] o.steps more o.ordered unsent)
       (grind (arith, then_written)) (rw told.noted took) (rw told.noted held) count
       (grind (arith, append_assoc, AreWrites-append)) (rw aside o.kept)
 
   -- the replies to more steps
   base-says : {now : Supply} {mid new : Place H} (a b : OutputState) → Base now mid a
-      → a.buffer.is_broken ≡ false → (more : List Step)
+      → a.buffer.is_broken ≡ false → (more : List Step) → SendsNothing more
       → Turns answers refuses endings size now mid more new
       → SaysBytes false a (reply_bytes old.ending (said_in more)) b → Base now new b
-  base-says a b o whole more turns (inl w) = base-writes a b o whole more turns w.passed.sent
-      w.passed.told (rw w.stage w.passed.all) (rw w.stage w.failures) w.passed.took w.aside
-  base-says a b o whole more turns (inr w) = base-writes a b o whole more turns w.passed.sent
-      w.passed.told (rw w.stage (w.passed.others, w.passed.all)) (rw w.stage w.failures)
-      w.passed.took w.aside
+  base-says a b o whole more unsent turns (inl w) =
+      base-writes a b o whole more unsent turns w.passed.sent w.passed.told
+      (rw w.stage w.passed.all) (rw w.stage w.failures) w.passed.took w.aside
+  base-says a b o whole more unsent turns (inr w) =
+      base-writes a b o whole more unsent turns w.passed.sent w.passed.told
+      (rw w.stage (w.passed.others, w.passed.all)) (rw w.stage w.failures) w.passed.took w.aside
 
   -- all replies were sent and flushed
   record Settled (now : Supply) (place : Place H) (output : OutputState) : Type 0 where
@@ -218,7 +248,7 @@ module _ {H : Type 0} (answers : H → Line → List Reply → Next → H → Ty
   base-flushed a b o whole f =
       let events = write_of a.buffer.bytes ++ Flushed ∷ [] in
       record {
-        base = base-writes a b o whole [] refl a.buffer.bytes (record {
+        base = base-writes a b o whole [] tt refl a.buffer.bytes (record {
           events = events;
           grows = f.told;
           writes = AreWrites-append (write_of a.buffer.bytes) (Flushed ∷ [])
@@ -234,6 +264,34 @@ module _ {H : Type 0} (answers : H → Line → List Reply → Next → H → Ty
   settled_sent : {now : Supply} {place : Place H} {output : OutputState}
       (s : Settled now place output) → sent_of s.base.events ≡ said_bytes s.base.steps
   settled_sent s = rw (s.whole, s.none, append-nil) at s.base.sent
+
+  -- the handler had asked for that
+  then_sent : {now : Supply} (place : Place H) (output : OutputState)
+      (s : Settled now place output) → place.awaited ≡ Sending
+      → Base now (record place { awaited = Input next.Line }) output
+  then_sent {now} place output s is =
+      let o = s.base in
+      base-more output output o s.whole (o.steps ++ sent_out ∷ []) [] []
+      (said-append o.steps (sent_out ∷ []))
+      (Turns-append answers refuses endings size now
+      (first_place old handler (received_of (o.events ++ []))) place
+      (record place { awaited = Input next.Line }) o.steps (sent_out ∷ [])
+      (rw (append-nil o.events) o.turns)
+      (record place { awaited = Input next.Line }, rw is refl, refl))
+      (Grows-nil output.history) tt
+      (rw (append-nil o.events) (AtEachSending-last old o.events o.steps o.ordered (record {
+        past = o.events;
+        later = [];
+        all = sym (append-nil o.events);
+        left = place.text;
+        came = (Turns-bytes answers refuses endings size now
+            (first_place old handler (received_of o.events)) place o.steps o.turns).0;
+        sent = settled_sent s;
+        flushed = s.flushed;
+      })))
+      (rw (append-nil o.events) o.gave) (Appends-nil output.taken)
+      (rw s.whole (sym (append-nil output.buffer.bytes))) (rw s.whole refl)
+      (λ ends. rw (append-nil o.events) (o.at_end ends)) o.kept
 
   module _ (place : Place H) (a b : OutputState) (s : Settled supply.Open place a)
       (lacks : Lacks endings size place.awaited place.start place.text)
@@ -270,7 +328,8 @@ module _ {H : Type 0} (answers : H → Line → List Reply → Next → H → Ty
         (rw (received, ← append_assoc old.talk.held (received_of o.events) read)
         (Turns-more answers refuses endings size now
         (first_place old handler (received_of o.events)) place o.steps read (λ _. going) o.turns))
-        grows prompt (rw received gave) (rw (silent, same) (Appends-nil a.taken))
+        grows prompt (AtEachSending-then old o.events events [] o.steps o.ordered)
+        (rw received gave) (rw (silent, same) (Appends-nil a.taken))
         (rw (buffer, s.whole, silent) (sym (append-nil a.buffer.bytes)))
         (rw (buffer, s.whole) count) (λ is. inr (ends is)) (λ reads. kept reads ∙ open_kept)
 
@@ -320,6 +379,7 @@ module _ {H : Type 0} (answers : H → Line → List Reply → Next → H → Ty
     turns = b.turns;
     grows = b.grows;
     prompt = b.prompt;
+    ordered = b.ordered;
     gave = b.gave;
     took = b.took;
     ended = ended;
@@ -342,14 +402,15 @@ module _ {H : Type 0} (answers : H → Line → List Reply → Next → H → Ty
       (record { talk = new; output = said.state; ending = said.ending }) last
   so_far now mid out said new last is o whole c apart ended unread sized same =
       let b : Base now (place_of new last) said.state = base-says out.state said.state o whole
-      c.steps c.turns (subst (λ q. SaysBytes q out.state (reply_bytes old.ending (said_in c.steps))
+      c.steps c.unsent c.turns (subst (λ q. SaysBytes q out.state (reply_bytes old.ending (said_in c.steps))
       said.state) whole (rw is at c.says.0)) in
       record {
         talk = talk_of now (record { talk = new; output = said.state; ending = said.ending }) last b
             ended (by_supply now b.kept unread) sized same (c.says.1 ∙ is);
         sent = b.sent;
         count = b.count;
-        going = c.closed;
+        going = going_by now new.awaited new.is_at_end c.closed ended unread;
+        request = c.rests.0;
         used = grind arith;
         lacks = grind arith;
         failed = grind arith;
@@ -366,7 +427,20 @@ module _ {H : Type 0} (answers : H → Line → List Reply → Next → H → Ty
     so = rw same held
 
     base_of : Base so.talk.now (place_of now.state.talk last) mid.state.output
-    base_of = grind arith
+    base_of = record {
+      steps = so.talk.steps;
+      events = so.talk.events;
+      turns = so.talk.turns;
+      grows = so.talk.grows;
+      prompt = so.talk.prompt;
+      ordered = so.talk.ordered;
+      gave = so.talk.gave;
+      took = so.talk.took;
+      sent = so.sent;
+      count = so.count;
+      at_end = λ is. so.talk.at_end (sym so.talk.ended ∙ is);
+      kept = λ apart. elim so.talk.reads [ inl reads ↦ reads | inr unread ↦ absurd (apart unread.0) ];
+    }
 
     -- the talk, after writes
     abbrev talk_after : now.state.output.aside ≡ mid.state.output.aside
@@ -400,7 +474,7 @@ module _ {H : Type 0} (answers : H → Line → List Reply → Next → H → Ty
             → FlushesFrom q (writing_of mid) (Err fault) (writing_of now)
             → Serves answers refuses old handler stop.Writer now.state last
         go false whole fails = serves_writer fails.1.aside sends.1 fails.1.stage
-            (base-says mid.state.output now.state.output base_of whole [] refl (inr fails.1))
+            (base-says mid.state.output now.state.output base_of whole [] tt refl (inr fails.1))
         go true broken fails = grind (arith, serves_writer, base_of)
 
     -- they were sent
@@ -429,55 +503,120 @@ module _ {H : Type 0} (answers : H → Line → List Reply → Next → H → Ty
           wrote stop.Writer is = absurd (false≢true (sym flushed.0 ∙ so.failed is))
           wrote _ is = grind (arith, settled_sent settled, settled)
 
-      -- the device was read once more
-      module _ (apart : ¬ (IsOver now.state.talk.awaited)) (said : Saying C) (new : TalkState)
-          (next : H) (r : ReadsOn answers refuses now.state.talk last (saying_of now) new next said)
+      -- the handler is asked again
+      module _ (is : now.state.talk.awaited ≡ Sending) (said : Saying C) (new : TalkState)
+          (after : H) (g : GoesOn answers refuses now.state.talk last (saying_of now) new after said)
         where
-          lacks_now : Lacks endings size now.state.talk.awaited now.state.talk.start
-              now.state.talk.held
-          lacks_now = elim so.lacks [ inl lacks ↦ lacks | inr over ↦ absurd (apart over) ]
+          -- a line is awaited then
+          abbrev asked : Place H
+          asked = place_of (record now.state.talk { awaited = Input next.Line }) last
 
-          converses_now : Converses answers refuses endings size r.now
-              (place_with now.state.talk last r.read) r.mid (place_of new next) said
-          converses_now = rw (so.talk.endings, so.talk.size) at r.converses
+          supply_is : so.talk.now ≡ supply_at now.state.talk.is_at_end
+          supply_is = grind arith
 
-          settled_open : Settled supply.Open (place_of now.state.talk last) now.state.output
-          settled_open = subst (λ n. Settled n (place_of now.state.talk last) now.state.output)
-              (elim so.going [ inl is ↦ is | inr over ↦ absurd (apart over) ]) settled
+          converses_on : Converses answers refuses endings size
+              (supply_at now.state.talk.is_at_end) asked (saying_of now) (place_of new after) said
+          converses_on = rw (is, so.talk.endings, so.talk.size) at g.converses
 
-          pub so_far-read : SoFar answers refuses old handler
-              (record { talk = new; output = said.state; ending = said.ending }) next
-          so_far-read = so_far r.now (place_with now.state.talk last r.read) r.mid said new next
-              (r.ending ∙ (sends.1 ∙ so.talk.ending))
-              (then_read (place_of now.state.talk last) now.state.output r.mid.state settled_open
-              lacks_now r.buffer r.now r.read r.reads)
-              (ap (λ (buf : BufferState). buf.is_broken) r.buffer ∙ settled_open.whole)
-              converses_now
-              apart r.ended r.unread (r.size ∙ so.talk.size) (r.endings ∙ so.talk.endings)
+          pub so_far-sent : SoFar answers refuses old handler
+              (record { talk = new; output = said.state; ending = said.ending }) after
+          so_far-sent = so_far (supply_at now.state.talk.is_at_end) asked (saying_of now) said new
+              after (sends.1 ∙ so.talk.ending)
+              (subst (λ n. Base n asked now.state.output) supply_is
+              (then_sent (place_of now.state.talk last) now.state.output settled is))
+              settled.whole converses_on
+              (λ over. let e : Input next.Line ≡ Nothing over.0 = over.1 in cc)
+              (supply_ended now.state.talk.is_at_end ∙ sym g.moves.at_end)
+              (λ failed. absurd (supply_reads now.state.talk.is_at_end failed))
+              (g.moves.size ∙ so.talk.size) (g.moves.endings ∙ so.talk.endings)
 
-          pub reads_smaller : mid.state.talk.start < 2 ^ 64
-              → reads_left new < reads_left mid.state.talk
-          reads_smaller low = rw (← same) (go r.now r.reads converses_now)
-            where
-              some : 0 < reads_left now.state.talk
-              some = grind (arith, reads_all, lacks_now)
+          pub sends_smaller : mid.state.talk.start < 2 ^ 64
+              → calls_left new < calls_left mid.state.talk
+          sends_smaller low = rw (← same) (
+              let c = converses_on in
+              grind (
+                arith,
+                Turns-bytes,
+                length-append (bytes_of c.steps) new.held,
+                calls_most new.awaited new,
+                sends_take,
+              ))
 
-              go : (now' : Supply)
-                  → IsRead now' (read_side now.state.output) (read_side r.mid.state) r.read
-                  → Converses answers refuses endings size now'
-                  (place_with now.state.talk last r.read) r.mid (place_of new next) said
-                  → reads_left new < reads_left now.state.talk
-              go supply.Open (reads, more) c =
-                  grind (
-                    arith,
-                    Turns-bytes,
-                    length-append now.state.talk.held r.read,
-                    length-append (bytes_of c.steps) new.held,
-                    some_length r.read more,
-                    reads_all now.state.talk.awaited now.state.talk apart,
-                    some,
-                  )
-              go _ reads c = grind (arith, some)
+      -- the device was read once more
+      module _ (apart : ¬ (IsOver now.state.talk.awaited)) (waits : now.state.talk.awaited ≢ Sending)
+          (said : Saying C) (new : TalkState) (next : H)
+          (r : ReadsOn answers refuses now.state.talk last (saying_of now) new next said) where
+        lacks_now : Lacks endings size now.state.talk.awaited now.state.talk.start
+            now.state.talk.held
+        lacks_now = elim so.lacks [
+          | inl lacks ↦ lacks
+          | inr (inl sending) ↦ absurd (waits sending)
+          | inr (inr over) ↦ absurd (apart over)
+        ]
+
+        converses_now : Converses answers refuses endings size r.now
+            (place_with now.state.talk last r.read) r.mid (place_of new next) said
+        converses_now = rw (so.talk.endings, so.talk.size) at r.converses
+
+        settled_open : Settled supply.Open (place_of now.state.talk last) now.state.output
+        settled_open = subst (λ n. Settled n (place_of now.state.talk last) now.state.output)
+            (elim so.going [
+              | inl is ↦ is
+              | inr (inl over) ↦ absurd (apart over)
+              | inr (inr sending) ↦ absurd (waits sending.0)
+            ]) settled
+
+        pub so_far-read : SoFar answers refuses old handler
+            (record { talk = new; output = said.state; ending = said.ending }) next
+        so_far-read = so_far r.now (place_with now.state.talk last r.read) r.mid said new next
+            (r.ending ∙ (sends.1 ∙ so.talk.ending))
+            (then_read (place_of now.state.talk last) now.state.output r.mid.state settled_open
+            lacks_now r.buffer r.now r.read r.reads)
+            (ap (λ (buf : BufferState). buf.is_broken) r.buffer ∙ settled_open.whole)
+            converses_now
+            apart r.ended r.unread (r.size ∙ so.talk.size) (r.endings ∙ so.talk.endings)
+
+        pub reads_smaller : mid.state.talk.start < 2 ^ 64
+            → calls_left new < calls_left mid.state.talk
+        reads_smaller low = rw (← same) (go r.now r.reads converses_now)
+          where
+            low_now : now.state.talk.start < 2 ^ 64
+            low_now = rw same low
+
+            some : 0 < read_room now.state.talk
+            some = grind (arith, lacks_now)
+
+            all : calls_left now.state.talk ≡ calls_room now.state.talk
+            all = calls_all now.state.talk.awaited now.state.talk apart waits
+
+            go : (now' : Supply)
+                → IsRead now' (read_side now.state.output) (read_side r.mid.state) r.read
+                → Converses answers refuses endings size now'
+                (place_with now.state.talk last r.read) r.mid (place_of new next) said
+                → calls_left new < calls_left now.state.talk
+            go supply.Open (reads, more) c =
+                grind (
+                  arith,
+                  Turns-bytes,
+                  length-append now.state.talk.held r.read,
+                  length-append (bytes_of c.steps) new.held,
+                  some_length r.read more,
+                  calls_most new.awaited new,
+                  all,
+                  some,
+                )
+            go _ reads c =
+                grind (
+                  arith,
+                  Turns-bytes,
+                  length-append now.state.talk.held r.read,
+                  length-append (bytes_of c.steps) new.held,
+                  calls_most new.awaited new,
+                  sends_take,
+                  so.request,
+                  all,
+                  some,
+                )
 
 -- a line is awaited, and steps were taken
 pub resumed : {H C : Type 0} (answers : H → Line → List Reply → Next → H → Type 0)

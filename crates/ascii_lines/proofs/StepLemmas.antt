@@ -46,12 +46,12 @@ module _ {H : Type 0} (answers : H → Line → List Reply → Next → H → Ty
   -- ---- after the last byte
 
   -- what is awaited after a step was asked for
-  requests : (a b : Place H) (step : Step) → IsTurn answers refuses endings size now a step b
+  pub requests : (a b : Place H) (step : Step) → IsTurn answers refuses endings size now a step b
       → IsRequested a.awaited → IsRequested b.awaited
   requests a b step turn = grind arith
 
   -- what is given has a byte
-  some_given : (asked : Next) (what : Wanted) (bytes left : List ℕ) (input : Line)
+  pub some_given : (asked : Next) (what : Wanted) (bytes left : List ℕ) (input : Line)
       → Wants endings asked what → IsRequested (Input asked) → IsInputOf what bytes input
       → Completes now what bytes left → 0 < length bytes
   some_given asked (wanted.Part n) bytes left input wants request is completes = grind arith

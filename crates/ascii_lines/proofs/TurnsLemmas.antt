@@ -10,20 +10,21 @@ use Rattle.ascii.proofs.EndingsLemmas.{FreeUpTo-more}
 use Rattle.ascii.specs.Endings.{any_text}
 use Rattle.ascii.specs.Lines.{Line}
 use Rattle.ascii.specs.declared.iter.spans.Endings.{Endings}
-use Rattle.ascii_lines.specs.Exchanges.{bytes_of, said_in, step_bytes}
+use Rattle.ascii_lines.specs.Exchanges.{SendsNothing, bytes_of, said_in, step_bytes}
 use Rattle.ascii_lines.specs.LineBuffer.{WindowState}
 use Rattle.ascii_lines.specs.LineReader.{Finds, Looks, StopsBy, window_at}
 use Rattle.ascii_lines.specs.Replies.{IsInputOf, IsRequest, Reply, Says, Saying, Step, rejected}
-use Rattle.ascii_lines.specs.Replies.{skipped, took}
+use Rattle.ascii_lines.specs.Replies.{sent_out, skipped, took}
 use Rattle.ascii_lines.specs.Skipping.{TakesPart, WhyNotSkipped}
 use Rattle.ascii_lines.specs.Turns.{Completes, Converses, Faults, GoesTo, IsOver, IsRequested}
 use Rattle.ascii_lines.specs.Turns.{IsSearchedFor, IsSound, IsTurn, IsTurnAt, Lacks, Place, Rests}
 use Rattle.ascii_lines.specs.Turns.{SkipTurn, SkipsIn, SkipsTo, Stops, TalkState, TurnOutcome}
 use Rattle.ascii_lines.specs.Turns.{Turns, Wants, awaited_by, is_ended, left_of, place_at, place_of}
-use Rattle.ascii_lines.specs.Turns.{place_with, supply_at, with_more}
+use Rattle.ascii_lines.specs.Turns.{after_sent, place_with, supply_at, with_more}
 use Rattle.ascii_lines.specs.Wanted.{MayBeLast, MustRead}
 use Rattle.ascii_lines.specs.declared.conversation.Awaited.{Awaited}
 use Rattle.ascii_lines.specs.declared.conversation.Awaited.TheVariants.{Input, LineEnd, Nothing}
+use Rattle.ascii_lines.specs.declared.conversation.Awaited.TheVariants.{Sending}
 use Rattle.ascii_lines.specs.declared.conversation.Supply.{Supply}
 use Rattle.ascii_lines.specs.declared.conversation.Supply.TheVariants as supply
 use Rattle.ascii_lines.specs.declared.line_reader.LineError.{LineError}
@@ -45,6 +46,15 @@ said-append [] ys = refl
 said-append (took input said ∷ xs) ys = simp (said-append xs ys, append_assoc)
 said-append (rejected error said ∷ xs) ys = simp (said-append xs ys, append_assoc)
 said-append (skipped bytes ∷ xs) ys = said-append xs ys
+said-append (sent_out ∷ xs) ys = said-append xs ys
+
+pub SendsNothing-append : (xs ys : List Step) → SendsNothing xs → SendsNothing ys
+    → SendsNothing (xs ++ ys)
+SendsNothing-append [] ys first then = then
+SendsNothing-append (sent_out ∷ xs) ys first then = absurd first
+SendsNothing-append (took input said ∷ xs) ys first then = SendsNothing-append xs ys first then
+SendsNothing-append (rejected error said ∷ xs) ys first then = SendsNothing-append xs ys first then
+SendsNothing-append (skipped bytes ∷ xs) ys first then = SendsNothing-append xs ys first then
 
 pub supply_ended : (is_at_end : Bool) → is_ended (supply_at is_at_end) ≡ is_at_end
 supply_ended is_at_end = grind arith
@@ -170,6 +180,8 @@ module _ {H : Type 0} (answers : H → Line → List Reply → Next → H → Ty
           | inr stop ↦ inr stop
         ],
       )
+      go Sending sent_out same = ap (λ (p : Place H). with_more p more) same
+      go Sending (skipped bytes) (none, same) = (none, ap (λ (p : Place H). with_more p more) same)
       go _ _ t = absurd t
 
   pub Turns-more : (a b : Place H) (steps : List Step) (more : List ℕ)
@@ -201,6 +213,7 @@ lacks_wants : (endings : Endings) (size : ℕ) (asked : Next) (start : ℕ) (tex
     → (what : Wanted) × Wants endings asked what × MustRead what start size text
 lacks_wants endings size next.Line start text lacks = (wanted.Line endings, refl, lacks)
 lacks_wants endings size (next.Part n) start text lacks = (wanted.Part n, refl, lacks)
+lacks_wants endings size next.LineOnceSent start text lacks = absurd lacks
 lacks_wants endings size next.Close start text lacks = absurd lacks
 
 -- ---- step after step
@@ -213,6 +226,7 @@ module _ {H K : Type 0} (answers : H → Line → List Reply → Next → H → 
     pub steps : List Step
     pub turns : Turns answers refuses endings size now old steps new
     pub says : Says out (said_in steps) said
+    pub unsent : SendsNothing steps
     pub request : IsRequested new.awaited
     pub used : new.awaited ≡ Nothing stop.EndOfInput → new.text ≡ []
     pub ended : new.awaited ≡ Nothing stop.EndOfInput
@@ -227,25 +241,27 @@ module _ {H K : Type 0} (answers : H → Line → List Reply → Next → H → 
     -- one step more
     steps-more : (new : Place H) (after : Saying K) (step : Step)
         → IsTurn answers refuses endings size now mid step new
-        → Says said (said_in (step ∷ [])) after
+        → Says said (said_in (step ∷ [])) after → SendsNothing (step ∷ [])
         → (steps : List Step) × Turns answers refuses endings size now old steps new
-        × Says out (said_in steps) after
-    steps-more new after step turn says = (
+        × Says out (said_in steps) after × SendsNothing steps
+    steps-more new after step turn says unsent = (
       going.steps ++ step ∷ [],
       Turns-append answers refuses endings size now old mid new going.steps (step ∷ [])
           going.turns (new, turn, refl),
       rw (said-append going.steps (step ∷ []))
           (Says-trans out said after (said_in going.steps) (said_in (step ∷ [])) going.says says),
+      SendsNothing-append going.steps (step ∷ []) going.unsent unsent,
     )
 
     -- one step more, after which the conversation is over
     then_over : (new : Place H) (after : Saying K) (step : Step)
         → IsTurn answers refuses endings size now mid step new
-        → Says said (said_in (step ∷ [])) after → (why : Stop) → new.awaited ≡ Nothing why
-        → why ≢ stop.EndOfInput → (why ≡ stop.Writer → after.state.buffer.is_broken ≡ true)
+        → Says said (said_in (step ∷ [])) after → SendsNothing (step ∷ []) → (why : Stop)
+        → new.awaited ≡ Nothing why → why ≢ stop.EndOfInput
+        → (why ≡ stop.Writer → after.state.buffer.is_broken ≡ true)
         → Converses answers refuses endings size now old out new after
-    then_over new after step turn says why is other broken =
-        let more = steps-more new after step turn says in
+    then_over new after step turn says unsent why is other broken =
+        let more = steps-more new after step turn says unsent in
         grind (arith, over_by)
 
     -- the replies cannot be written
@@ -253,7 +269,7 @@ module _ {H K : Type 0} (answers : H → Line → List Reply → Next → H → 
         → Converses answers refuses endings size now old out
         (record mid { awaited = Nothing stop.Writer }) said
     then_breaks apart broken = then_over (record mid { awaited = Nothing stop.Writer }) said
-        (skipped []) (turn mid.awaited apart) (Says-nil said) stop.Writer refl (λ is. cc)
+        (skipped []) (turn mid.awaited apart) (Says-nil said) tt stop.Writer refl (λ is. cc)
         (λ is. broken)
       where
         turn : (awaited : Awaited) → ¬ (IsOver awaited)
@@ -267,7 +283,7 @@ module _ {H K : Type 0} (answers : H → Line → List Reply → Next → H → 
     then_goes kind room same sized new after turn =
         let t : TurnOutcome answers refuses endings size now mid said true new after =
         rw (same, sized) at turn in
-        let more = steps-more new after t.0 t.1 t.2 in
+        let more = steps-more new after t.0 t.1 t.2 t.3 in
         grind arith
 
 -- a conversation is fed with some bytes, and then with more: the steps are those of both together
@@ -294,6 +310,28 @@ feed_joins answers refuses a b c x y z out mid said first more same sized one tw
       (Says-trans out mid said (said_in one.steps) (said_in two.steps) one.says two.says),
 )
 
+-- a conversation is fed with some bytes, and then its replies were sent, which was awaited: the steps
+-- are those of both, with the sending between them
+pub sent_joins : {H K : Type 0} (answers : H → Line → List Reply → Next → H → Type 0)
+    (refuses : H → LineError → List Reply → Next → H → Type 0) (a b c : TalkState)
+    (x y z : H) (out mid between said : Saying K) (first : List ℕ) → b.endings ≡ a.endings
+    → b.size ≡ a.size → b.is_at_end ≡ false → b.awaited ≡ Sending
+    → Converses answers refuses a.endings a.size supply.Open (place_with a x first) out
+    (place_of b y) mid
+    → Converses answers refuses b.endings b.size (supply_at b.is_at_end)
+    (place_of (record b { awaited = after_sent b.awaited }) y) between (place_of c z) said
+    → (steps : List Step) × Turns answers refuses a.endings a.size supply.Open
+    (place_with a x first) steps (place_of c z)
+sent_joins answers refuses a b c x y z out mid between said first same sized going is one two = (
+  one.steps ++ sent_out ∷ two.steps,
+  Turns-append answers refuses a.endings a.size supply.Open (place_with a x first) (place_of b y)
+      (place_of c z) one.steps (sent_out ∷ two.steps) one.turns (
+        place_of (record b { awaited = Input next.Line }) y,
+        rw is refl,
+        rw (is, going, same, sized) at two.turns,
+      ),
+)
+
 module _ {H K : Type 0} (answers : H → Line → List Reply → Next → H → Type 0)
     (refuses : H → LineError → List Reply → Next → H → Type 0) (endings : Endings) (size : ℕ)
     (handler : H) (start : ℕ) (text : List ℕ) (out : Saying K) where
@@ -303,6 +341,13 @@ module _ {H K : Type 0} (answers : H → Line → List Reply → Next → H → 
       → Converses answers refuses endings size now (place_at awaited handler start text) out
       (place_at awaited handler start text) out
   over_rests now awaited over rests = grind (arith, Says-nil)
+
+  -- one that awaits that the replies are sent takes no step, but for a device that has failed
+  pub sending_rests : (now : Supply) (awaited : Awaited) → awaited ≡ Sending
+      → out.state.buffer.is_broken ≡ false
+      → Converses answers refuses endings size now (place_at awaited handler start text) out
+      (place_at awaited handler start text) out
+  sending_rests now awaited is whole = grind (arith, Says-nil)
 
   -- ---- a read that failed
 
@@ -322,7 +367,7 @@ module _ {H K : Type 0} (answers : H → Line → List Reply → Next → H → 
       (Going-first answers refuses endings size supply.Failed old out asks (λ is. cc))
       (place_at (Nothing (stop.Reader fault.Read)) last start text) said (rejected fault.Read gave)
       (then, what, inr (refl, λ _. inl tt), request, wants, tells, faults, refl, refl)
-      (rw (append-nil gave) says) (stop.Reader fault.Read) refl (λ is. cc) (λ is. cc)
+      (rw (append-nil gave) says) tt (stop.Reader fault.Read) refl (λ is. cc) (λ is. cc)
 
   -- the rest of a line that was rejected is not read over
   pub fail_line : (then : Next) → IsRequested (LineEnd then)
@@ -339,7 +384,7 @@ module _ {H K : Type 0} (answers : H → Line → List Reply → Next → H → 
         refl,
         omega arith,
         inl (inr (inr (inr (fault.Read, refl, λ _. refl, (lacks.0, lacks.1))))),
-      ) (Says-nil out) (stop.Reader fault.Read) refl (λ is. cc) (λ is. cc)
+      ) (Says-nil out) tt (stop.Reader fault.Read) refl (λ is. cc) (λ is. cc)
 
 -- ---- one step
 
@@ -373,6 +418,7 @@ module _ {H K : Type 0} (answers : H → Line → List Reply → Next → H → 
           took input gave,
           (then, what, take n text, refl, request, wants, is, stops.1, tells, parts, place),
           rw (append-nil gave) says,
+          tt,
           sound_by now then (drop n text) request,
           grind (arith, length-drop),
         )
@@ -396,6 +442,7 @@ module _ {H K : Type 0} (answers : H → Line → List Reply → Next → H → 
           rejected error gave,
           (then, what, goes, request, wants, tells, faults, refl, refl),
           rw (append-nil gave) says,
+          tt,
           sound.0,
           sound.1,
         )
@@ -409,10 +456,12 @@ module _ {H K : Type 0} (answers : H → Line → List Reply → Next → H → 
       skipped [],
       (stop.EndOfInput, refl, (refl, ended, none), refl),
       Says-nil out,
+      tt,
       (ended, none),
       omega arith,
     )
     turn_ends (next.Part n) other asks ended none = absurd (other n refl)
+    turn_ends next.LineOnceSent other asks ended none = absurd asks
     turn_ends next.Close other asks ended none = absurd asks
 
     -- there is no part
@@ -433,6 +482,7 @@ module _ {H K : Type 0} (answers : H → Line → List Reply → Next → H → 
           (then, wanted.Part n, inr (refl, λ _. inl tt), request, refl, tells, faults, refl, refl),
           rw (append-nil gave) says,
           tt,
+          tt,
           omega arith,
         )
 
@@ -445,13 +495,13 @@ module _ {H K : Type 0} (answers : H → Line → List Reply → Next → H → 
         let low : length text ≡ length t.0 + length left = ap length t.1 ∙ length-append t.0 left in
         let sound : IsSound now after left × (left_of after left < 2 * length text + 1) =
         grind (arith, sound_by) in
-        (skipped t.0, (refl, t.1, t.2, inl t.4), Says-nil out, sound.0, sound.1)
+        (skipped t.0, (refl, t.1, t.2, inl t.4), Says-nil out, tt, sound.0, sound.1)
     turn_skips false then after place left request t = grind arith
 
 pub rests_lacks : (endings : Endings) (size : ℕ) (awaited : Awaited) (start : ℕ) (held : List ℕ)
-    → Rests endings size awaited start held → ¬ (IsOver awaited)
+    → Rests endings size awaited start held → ¬ (IsOver awaited) → awaited ≢ Sending
     → Lacks endings size awaited start held
-rests_lacks endings size awaited start held rests apart = grind arith
+rests_lacks endings size awaited start held rests apart waits = grind arith
 
 -- a conversation that rests has searched all bytes that it holds
 pub rests_searched : (endings : Endings) (size : ℕ) (awaited : Awaited) (start : ℕ)

@@ -2,7 +2,7 @@
 use Rattle.std.specs.Prelude.{◌≡◌, ℕ, List, [], ◌∷◌, ◌++◌, None, Some, ⊤}
 use Rattle.std.specs.declared.option.Option.{Option}
 use Rattle.ascii.specs.Lines.{Line, line_text}
-use Rattle.ascii_lines.specs.Replies.{Reply, Step, rejected, skipped, took}
+use Rattle.ascii_lines.specs.Replies.{Reply, Step, rejected, sent_out, skipped, took}
 use Rattle.ascii_lines.specs.declared.line_reader.LineError.{LineError}
 use Rattle.ascii_lines.specs.declared.line_reader.LineError.TheVariants.{Incomplete}
 use Rattle.ascii_lines.specs.declared.serving.Next.{Next}
@@ -14,6 +14,7 @@ inputs_of [] = []
 inputs_of (took input replies ∷ steps) = input ∷ inputs_of steps
 inputs_of (rejected error replies ∷ steps) = inputs_of steps
 inputs_of (skipped bytes ∷ steps) = inputs_of steps
+inputs_of (sent_out ∷ steps) = inputs_of steps
 
 -- what the handler was given in the steps: the body of a line or part, or `None` for an error
 abbrev pub given_in : List Step → List (Option (List ℕ))
@@ -21,6 +22,7 @@ given_in [] = []
 given_in (took input replies ∷ steps) = Some input.body ∷ given_in steps
 given_in (rejected error replies ∷ steps) = None ∷ given_in steps
 given_in (skipped bytes ∷ steps) = given_in steps
+given_in (sent_out ∷ steps) = given_in steps
 
 -- the replies of the steps
 abbrev pub said_in : List Step → List Reply
@@ -28,12 +30,14 @@ said_in [] = []
 said_in (took input replies ∷ steps) = replies ++ said_in steps
 said_in (rejected error replies ∷ steps) = replies ++ said_in steps
 said_in (skipped bytes ∷ steps) = said_in steps
+said_in (sent_out ∷ steps) = said_in steps
 
 -- the bytes of the input that a step took
 abbrev pub step_bytes : Step → List ℕ
 step_bytes (took input replies) = line_text input
 step_bytes (rejected error replies) = []
 step_bytes (skipped bytes) = bytes
+step_bytes sent_out = []
 
 -- the bytes of the input that the steps took, laid end to end
 abbrev pub bytes_of : List Step → List ℕ
@@ -46,6 +50,13 @@ TakesNothing [] = ⊤
 TakesNothing (took input replies ∷ steps) = ⊥
 TakesNothing (rejected error replies ∷ steps) = (error ≡ Incomplete 0) × TakesNothing steps
 TakesNothing (skipped bytes ∷ steps) = (bytes ≡ []) × TakesNothing steps
+TakesNothing (sent_out ∷ steps) = TakesNothing steps
+
+-- in none of the steps replies were sent for the handler
+abbrev pub SendsNothing : List Step → Type 0
+SendsNothing [] = ⊤
+SendsNothing (sent_out ∷ steps) = ⊥
+SendsNothing (other ∷ steps) = SendsNothing steps
 
 module _ {H : Type 0} (answers : H → Line → List Reply → Next → H → Type 0)
     (refuses : H → LineError → List Reply → Next → H → Type 0) where
@@ -57,6 +68,7 @@ module _ {H : Type 0} (answers : H → Line → List Reply → Next → H → Ty
   Runs old (rejected error replies ∷ steps) new = (then : Next) × (mid : H)
       × refuses old error replies then mid × Runs mid steps new
   Runs old (skipped bytes ∷ steps) new = Runs old steps new
+  Runs old (sent_out ∷ steps) new = Runs old steps new
 
 -- ---- handlers that reply to lines
 

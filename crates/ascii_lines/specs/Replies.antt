@@ -80,11 +80,13 @@ IsRequest other = ⊤
 -- what happened in a conversation at one time. `took`: the handler was given a line or a part, and
 -- gave replies. `rejected`: it was told of an error in place of what it asked for, and gave
 -- replies. `skipped`: bytes of a line that was rejected were read over; or none, and the
--- conversation stopped
+-- conversation stopped. `sent_out`: the handler had asked for the next line once the replies were
+-- sent, and they were
 pub data Step : Type 0 where
   took : Line → List Reply → Step
   rejected : LineError → List Reply → Step
   skipped : List ℕ → Step
+  sent_out : Step
 
 -- whether a read had returned no bytes before `others` came, if `is_at_end` tells whether one has
 -- after them: none had if a byte came

@@ -12,15 +12,16 @@ use Rattle.ascii_devices.specs.States.{Gives, SourceState, of_state}
 use Rattle.ascii_devices.specs.declared.Sink.{Ghosts}
 use Rattle.ascii_devices.specs.declared.log.Event.{Event}
 use Rattle.ascii_devices.specs.declared.log.Event.TheVariants.{Flushed, Read}
-use Rattle.ascii_lines.specs.Exchanges.{said_in}
+use Rattle.ascii_lines.specs.Exchanges.{bytes_of, said_in}
 use Rattle.ascii_lines.specs.Failures.{one_more}
 use Rattle.ascii_lines.specs.History.{EndsInEmptyRead}
 use Rattle.ascii_lines.specs.LineBuffer.{FailsOnce, ReadsOnce}
 use Rattle.ascii_lines.specs.LineWriter.{FlushesOutcome, WritesLine, Writing, fresh_writer}
-use Rattle.ascii_lines.specs.Replies.{Reply, Saying, Step, reply_bytes, reply_text}
-use Rattle.ascii_lines.specs.Turns.{Converses, IsOver, Lacks, Place, TalkState, Turns, fresh_talk}
-use Rattle.ascii_lines.specs.Turns.{is_ended, place_of, place_with}
-use Rattle.ascii_lines.specs.declared.conversation.Awaited.TheVariants.{Input, Nothing}
+use Rattle.ascii_lines.specs.Replies.{Reply, Saying, Step, reply_bytes, reply_text, sent_out}
+use Rattle.ascii_lines.specs.Turns.{Converses, IsOver, IsRequested, Lacks, OnlyMoves, Place}
+use Rattle.ascii_lines.specs.Turns.{TalkState, Turns, after_sent, fresh_talk, is_ended, place_of}
+use Rattle.ascii_lines.specs.Turns.{place_with, supply_at}
+use Rattle.ascii_lines.specs.declared.conversation.Awaited.TheVariants.{Input, Nothing, Sending}
 use Rattle.ascii_lines.specs.declared.conversation.Supply.{Supply}
 use Rattle.ascii_lines.specs.declared.conversation.Supply.TheVariants as supply
 use Rattle.ascii_lines.specs.declared.line_reader.LineError.{LineError}
@@ -96,6 +97,25 @@ module _ {H : Type 0} (answers : H → Line → List Reply → Next → H → Ty
     pub sent : sent_of past ≡ first.output.buffer.bytes ++ reply_bytes first.ending (said_in steps)
     pub flushed : IsFlushed past
 
+-- of these steps, which come after the steps `past`, `P` is true of all that came before each at
+-- which replies were sent for the handler
+abbrev pub AtEachSending : (List Step → Type 0) → List Step → List Step → Type 0
+AtEachSending P past [] = ⊤
+AtEachSending P past (sent_out ∷ steps) = P past × AtEachSending P (past ++ sent_out ∷ []) steps
+AtEachSending P past (other ∷ steps) = AtEachSending P (past ++ other ∷ []) steps
+
+-- the first events of a channel in the state `first` brought what the steps `before` took, and sent
+-- and flushed all replies of these and no others; the events `later` came after them
+pub record AreSentFirst (first : ChannelState) (events : List Event) (before : List Step) : Type 0
+  where
+    pub past : List Event
+    pub later : List Event
+    pub all : events ≡ past ++ later
+    pub left : List ℕ
+    pub came : first.talk.held ++ received_of past ≡ bytes_of before ++ left
+    pub sent : sent_of past ≡ first.output.buffer.bytes ++ reply_bytes first.ending (said_in before)
+    pub flushed : IsFlushed past
+
 -- ---- the whole conversation
 
 module _ {H : Type 0} (answers : H → Line → List Reply → Next → H → Type 0)
@@ -113,6 +133,7 @@ module _ {H : Type 0} (answers : H → Line → List Reply → Next → H → Ty
         steps (place_of new.talk last)
     pub grows : Grows old.output.history new.output.history events
     pub prompt : AtEachRead (IsAnswered answers refuses old handler) [] events
+    pub ordered : AtEachSending (AreSentFirst old events) [] steps
     pub gave : Gives of_state (read_side old.output) (read_side new.output) (received_of events)
     pub took : Appends old.output.taken new.output.taken (sent_of events)
     pub ended : is_ended now ≡ new.talk.is_at_end
@@ -229,6 +250,16 @@ module _ {H C : Type 0} (answers : H → Line → List Reply → Next → H → 
     pub size : new.size ≡ old.size
     pub endings : new.endings ≡ old.endings
 
+module _ {H C : Type 0} (answers : H → Line → List Reply → Next → H → Type 0)
+    (refuses : H → LineError → List Reply → Next → H → Type 0) where
+  -- the replies were sent, and every step was taken that the bytes held complete
+  pub record GoesOn (old : TalkState) (handler : H) (out : Saying C) (new : TalkState) (last : H)
+      (said : Saying C) : Type 0 where
+    pub converses : Converses answers refuses old.endings old.size (supply_at old.is_at_end)
+        (place_of (record old { awaited = after_sent old.awaited }) handler) out
+        (place_of new last) said
+    pub moves : OnlyMoves old new
+
 module _ {H : Type 0} (answers : H → Line → List Reply → Next → H → Type 0)
     (refuses : H → LineError → List Reply → Next → H → Type 0) where
   -- a conversation over a channel so far, of which the last replies may be held by the channel
@@ -238,8 +269,10 @@ module _ {H : Type 0} (answers : H → Line → List Reply → Next → H → Ty
         (old.output.buffer.bytes ++ reply_bytes old.ending (said_in talk.steps))
     pub count : CountsBy new.output.buffer.is_broken old.output.failures new.output.failures
     pub going : (talk.now ≡ supply.Open) ⊎ IsOver new.talk.awaited
+        ⊎ ((new.talk.awaited ≡ Sending) × (talk.now ≡ supply_at new.talk.is_at_end))
+    pub request : IsRequested new.talk.awaited
     pub used : new.talk.awaited ≡ Nothing stop.EndOfInput
         → (talk.now ≡ supply.Ended) × (new.talk.held ≡ [])
     pub lacks : Lacks old.talk.endings old.talk.size new.talk.awaited new.talk.start new.talk.held
-        ⊎ IsOver new.talk.awaited
+        ⊎ (new.talk.awaited ≡ Sending) ⊎ IsOver new.talk.awaited
     pub failed : new.talk.awaited ≡ Nothing stop.Writer → new.output.buffer.is_broken ≡ true

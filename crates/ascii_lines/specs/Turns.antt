@@ -6,14 +6,15 @@ use Rattle.std.specs.declared.option.Option.{Option}
 use Rattle.ascii.specs.Endings.{FreeUpTo, IsFirstStop, any_text}
 use Rattle.ascii.specs.Lines.{Line}
 use Rattle.ascii.specs.declared.iter.spans.Endings.{Endings}
-use Rattle.ascii_lines.specs.Exchanges.{said_in}
+use Rattle.ascii_lines.specs.Exchanges.{SendsNothing, said_in}
 use Rattle.ascii_lines.specs.LineBuffer.{WindowState}
 use Rattle.ascii_lines.specs.Replies.{IsInputOf, IsRequest, Reply, Says, Saying, Step}
-use Rattle.ascii_lines.specs.Replies.{at_end_before, rejected, skipped, took}
+use Rattle.ascii_lines.specs.Replies.{at_end_before, rejected, sent_out, skipped, took}
 use Rattle.ascii_lines.specs.Skipping.{HasNoEnd, IsCleanCut, IsFinal, WhyNotSkipped}
 use Rattle.ascii_lines.specs.Wanted.{EndsAt, MayBeLast, MustRead, Rejects}
 use Rattle.ascii_lines.specs.declared.conversation.Awaited.{Awaited}
 use Rattle.ascii_lines.specs.declared.conversation.Awaited.TheVariants.{Input, LineEnd, Nothing}
+use Rattle.ascii_lines.specs.declared.conversation.Awaited.TheVariants.{Sending}
 use Rattle.ascii_lines.specs.declared.conversation.Supply.{Supply}
 use Rattle.ascii_lines.specs.declared.conversation.Supply.TheVariants as supply
 use Rattle.ascii_lines.specs.declared.line_reader.LineError.{LineError}
@@ -46,7 +47,13 @@ IsOver awaited = (why : Stop) × (awaited ≡ Nothing why)
 -- what is awaited after a handler has asked for this
 abbrev pub awaited_by : Next → Awaited
 awaited_by next.Close = Nothing stop.Closed
+awaited_by next.LineOnceSent = Sending
 awaited_by asked = Input asked
+
+-- what is awaited after the replies were sent: a line, if their sending was awaited
+abbrev pub after_sent : Awaited → Awaited
+after_sent Sending = Input next.Line
+after_sent awaited = awaited
 
 -- ---- one step
 
@@ -54,6 +61,7 @@ awaited_by asked = Input asked
 abbrev pub Wants : Endings → Next → Wanted → Type 0
 Wants endings next.Line what = what ≡ wanted.Line endings
 Wants endings (next.Part n) what = what ≡ wanted.Part n
+Wants endings next.LineOnceSent what = ⊥
 Wants endings next.Close what = ⊥
 
 -- the input has ended
@@ -108,7 +116,7 @@ module _ {H : Type 0} (answers : H → Line → List Reply → Next → H → Ty
   -- one step of a conversation in which `awaited` is awaited, with a buffer of `size` bytes.
   -- `took`: the handler is given the line or part that it asked for. `rejected`: it is told of an
   -- error in its place. `skipped`: bytes of a line that was rejected are read over; or none, and
-  -- the conversation stops
+  -- the conversation stops. `sent_out`: the replies are sent, and then a line is awaited
   abbrev pub IsTurnAt : Awaited → Place H → Step → Place H → Type 0
   IsTurnAt (Input asked) old (took input said) new = (then : Next) × (what : Wanted)
       × (bytes : List ℕ) × (new.awaited ≡ awaited_by then) × IsRequest then
@@ -128,6 +136,9 @@ module _ {H : Type 0} (answers : H → Line → List Reply → Next → H → Ty
       × (old.text ≡ bytes ++ new.text) × (new.start ≡ old.start + length bytes)
       × (SkipsTo now (any_text endings) then old.start bytes new.text new.awaited
       ⊎ ((new.awaited ≡ Nothing stop.Writer) × (bytes ≡ [])))
+  IsTurnAt Sending old sent_out new = new ≡ record old { awaited = Input next.Line }
+  IsTurnAt Sending old (skipped bytes) new =
+      (bytes ≡ []) × (new ≡ record old { awaited = Nothing stop.Writer })
   IsTurnAt awaited old step new = ⊥
 
   -- steps, one after another
@@ -152,30 +163,34 @@ Lacks endings size awaited start text = ⊥
 -- a handler has asked for what is awaited: a line, or a part of one byte at least
 abbrev pub IsRequested : Awaited → Type 0
 IsRequested (Input next.Close) = ⊥
+IsRequested (Input next.LineOnceSent) = ⊥
 IsRequested (Input asked) = IsRequest asked
 IsRequested (LineEnd then) = IsRequest then
+IsRequested Sending = ⊤
 IsRequested (Nothing why) = ⊤
 
--- no step can be taken before more bytes come: what is awaited is not among these; or the
--- conversation is over, and has used all of them if it ended with the input
+-- no step can be taken before more bytes come: what is awaited is not among these; or before the
+-- replies are sent, which is awaited; or the conversation is over, and has used all of them if it
+-- ended with the input
 abbrev pub Rests : Endings → ℕ → Awaited → ℕ → List ℕ → Type 0
 Rests endings size awaited start text = IsRequested awaited
-    × (Lacks endings size awaited start text
+    × (Lacks endings size awaited start text ⊎ (awaited ≡ Sending)
     ⊎ (IsOver awaited × (awaited ≡ Nothing stop.EndOfInput → text ≡ [])))
 
 module _ {H K : Type 0} (answers : H → Line → List Reply → Next → H → Type 0)
     (refuses : H → LineError → List Reply → Next → H → Type 0) (endings : Endings) (size : ℕ)
     (now : Supply) where
-  -- steps were taken, and their replies given in order; and none is left. If the bytes are all that
-  -- will come, the conversation is over; and so it is if the replies could not be written, which is
-  -- the reason only if it was not over before
+  -- steps were taken, and their replies given in order; and none is left, unless the replies are to
+  -- be sent first. If the bytes are all that will come, the conversation is over; and so it is if the
+  -- replies could not be written, which is the reason only if it was not over before
   pub record Converses (old : Place H) (out : Saying K) (new : Place H) (said : Saying K) : Type 0
     where
       pub steps : List Step
       pub turns : Turns answers refuses endings size now old steps new
       pub says : Says out (said_in steps) said
+      pub unsent : SendsNothing steps
       pub rests : Rests endings size new.awaited new.start new.text
-      pub closed : (now ≡ supply.Open) ⊎ IsOver new.awaited
+      pub closed : (now ≡ supply.Open) ⊎ IsOver new.awaited ⊎ (new.awaited ≡ Sending)
       pub written : IsOver new.awaited ⊎ (said.state.buffer.is_broken ≡ false)
       pub ended : new.awaited ≡ Nothing stop.EndOfInput
           → (old.awaited ≡ Nothing stop.EndOfInput) ⊎ (now ≡ supply.Ended)
@@ -258,6 +273,7 @@ place_at awaited handler start text =
 abbrev pub left_of : Awaited → List ℕ → ℕ
 left_of (Input asked) text = 2 * length text + 2
 left_of (LineEnd then) text = 2 * length text + 1
+left_of Sending text = 0
 left_of (Nothing why) text = 0
 
 -- what a step leaves: something that was asked for; and it has not stopped since the replies could
@@ -277,18 +293,19 @@ module _ {H : Type 0} (answers : H → Line → List Reply → Next → H → Ty
 module _ {H K : Type 0} (answers : H → Line → List Reply → Next → H → Type 0)
     (refuses : H → LineError → List Reply → Next → H → Type 0) (endings : Endings) (size : ℕ)
     (now : Supply) where
-  -- the outcome of one step: it was taken; or there is none before more bytes come
+  -- the outcome of one step: it was taken; or there is none before the replies are sent, or before
+  -- more bytes come
   abbrev pub TurnOutcome : Place H → Saying K → Bool → Place H → Saying K → Type 0
   TurnOutcome old out true new said = (step : Step)
       × IsTurn answers refuses endings size now old step new × Says out (said_in (step ∷ [])) said
-      × IsSound now new.awaited new.text
+      × SendsNothing (step ∷ []) × IsSound now new.awaited new.text
       × (left_of new.awaited new.text < left_of old.awaited old.text)
-  TurnOutcome old out false new said = (new ≡ old) × (said ≡ out) × (now ≡ supply.Open)
-      × Lacks endings size old.awaited old.start old.text
+  TurnOutcome old out false new said = (new ≡ old) × (said ≡ out) × ((old.awaited ≡ Sending)
+      ⊎ ((now ≡ supply.Open) × Lacks endings size old.awaited old.start old.text))
 
--- the first `searched` bytes were searched for what is awaited, or none were
+-- the first `searched` bytes were searched for what is awaited, or none were, or no bytes are awaited
 abbrev pub IsSearchedFor : Endings → ℕ → Awaited → ℕ → List ℕ → ℕ → Type 0
-IsSearchedFor endings size awaited start text searched = (searched ≡ 0)
+IsSearchedFor endings size awaited start text searched = (searched ≡ 0) ⊎ (awaited ≡ Sending)
     ⊎ ((searched ≤ length text) × Lacks endings size awaited start (take searched text))
 
 -- as many of `bytes` as there was room for, which are `n`, are held after those that were

@@ -8,7 +8,11 @@
 //! |---|---|
 //! | bytes came | `feed`, again with the bytes that it did not take |
 //! | the input has ended, or its source has failed | `end`, `fail` |
-//! | the replies were sent | `is_closed`, and `stop` for the reason |
+//! | the replies were sent | `sent`, if `is_sending`; then `is_closed`, and `stop` for the reason |
+//!
+//! A handler that asks for `Next::LineOnceSent` is not asked again before the caller says by `sent` that its replies
+//! were sent. Until then bytes are held, as many as there is room for, and no step is carried out. `end` and `fail` are
+//! called again after it.
 //!
 //! How the bytes are cut changes nothing: feeding one piece and then another is feeding both together. A contract
 //! speaks of the bytes that were fed, of what is awaited, and of the replies; no call has a condition. `serve` is a
@@ -18,8 +22,8 @@ ghost use Rattle.std.specs.Prelude.{◌≡◌, ◌≢◌, ◌⊎◌, ◌<◌, �
 ghost use Rattle.std.specs.Prelude.{length, take, true};
 ghost use Rattle.ascii.specs.Endings.{any_text};
 ghost use Rattle.ascii_lines.specs.LineReader.{Finds, IsLookedFor, window_at};
-ghost use Rattle.ascii_lines.specs.Turns.{GoesTo, IsOver, SkipsIn, awaited_by, fresh_talk};
-ghost use Rattle.ascii_lines.specs.Turns.{supply_at};
+ghost use Rattle.ascii_lines.specs.Turns.{GoesTo, IsOver, SkipsIn, after_sent, awaited_by};
+ghost use Rattle.ascii_lines.specs.Turns.{fresh_talk, supply_at};
 
 use crate::line_buffer::LineBuffer;
 use crate::line_reader::LineError;
@@ -38,6 +42,8 @@ pub enum Awaited {
     Input(Next),
     /// The end of a line that was rejected, and then what the handler has asked for.
     LineEnd(Next),
+    /// That the replies are sent, and then a line.
+    Sending,
     /// Nothing: the conversation is over, for this reason.
     Nothing(Stop),
 }
@@ -104,10 +110,12 @@ impl<A: Allocator> Conversation<A> {
     ghost use Rattle.ascii_lines.specs.Turns.{Converses, OnlyMoves, place_of, place_with, stop_of};
 
     /// Takes bytes that came, as many as there is room for, and carries out every step that they complete. Returns
-    /// the number of bytes that were taken: at least one, unless there are none or the conversation is over.
+    /// the number of bytes that were taken: at least one, unless there are none, the conversation is over, or the
+    /// replies are to be sent first.
     ///
-    /// The caller feeds the other bytes in a later call. A conversation that is over takes none. If the sink of the
-    /// replies fails, the handler is not asked again, and the conversation is over.
+    /// The caller feeds the other bytes in a later call. A conversation that is over takes none. One that awaits that
+    /// the replies are sent carries out no step. If the sink of the replies fails, the handler is not asked again, and
+    /// the conversation is over.
     ///
     /// In the examples, `Echo` is a handler that replies with the text that it is handed, and to an error with `no`.
     ///
@@ -126,7 +134,8 @@ impl<A: Allocator> Conversation<A> {
         replies: &mut Replies<K, B>,
     ) -> usize
         ensures within { result ≤ length bytes.now }
-        ensures some { 0 < length bytes.now → IsOver self.old.awaited ⊎ (0 < result) }
+        ensures some { 0 < length bytes.now → IsOver self.old.awaited
+            ⊎ (self.old.awaited ≡ Awaited.Sending) ⊎ (0 < result) }
         ensures most { IsOver self.old.awaited ⊎ (result ≡ length bytes.now)
             ⊎ (self.old.size < length (self.old.held ++ take result bytes.now)) }
         ensures converses { Converses H.answers H.refuses self.old.endings self.old.size
@@ -144,7 +153,8 @@ impl<A: Allocator> Conversation<A> {
     }
 
     /// Carries out the steps of the end of the input: the handler answers the bytes that are held as a line without an
-    /// ending, or is told of an error in place of what it asked for. Then the conversation is over.
+    /// ending, or is told of an error in place of what it asked for. Then the conversation is over, unless the replies
+    /// are to be sent first: the caller sends them, calls `sent`, and then `end` again.
     ///
     ///     let mut talk = Conversation::new(alloc, 64, Endings::Any)?;
     ///     let writer = LineWriter::new(alloc, Output::new(Vec::new(alloc)), 64)?;
@@ -170,7 +180,8 @@ impl<A: Allocator> Conversation<A> {
     }
 
     /// Tells the handler that the source of the input has failed, by the error `Read`, in place of what it asked for.
-    /// Then the conversation is over. In the rest of a line that was rejected, the handler is not told.
+    /// Then the conversation is over. In the rest of a line that was rejected, the handler is not told. If the replies
+    /// are to be sent first, the handler is not told either: the caller sends them, calls `sent`, and then `fail` again.
     ///
     ///     let mut talk = Conversation::new(alloc, 64, Endings::Any)?;
     ///     let writer = LineWriter::new(alloc, Output::new(Vec::new(alloc)), 64)?;
@@ -189,6 +200,57 @@ impl<A: Allocator> Conversation<A> {
         ensures moves { OnlyMoves self.old self.new }
     {
         self.dialogue.fail(handler, replies);
+    }
+
+    /// Says that the replies so far were sent: if the handler has asked for that, every step that the bytes that are held
+    /// complete is carried out. Otherwise nothing is left to be done. If the sink of the replies has failed, the handler
+    /// is not asked again, and the conversation is over.
+    ///
+    /// In the example, `Slow` is a handler that replies with the text that it is handed, and asks for the next line
+    /// once that was sent.
+    ///
+    ///     let mut talk = Conversation::new(alloc, 64, Endings::Any)?;
+    ///     let writer = LineWriter::new(alloc, Output::new(Vec::new(alloc)), 64)?;
+    ///     let mut replies = Replies::new(writer, Ending::Lf);
+    ///     talk.feed(&mut Slow, b"ab\ncd\n", &mut replies) // 6
+    ///     talk.position() // 3
+    ///     replies.flush() // Ok(())
+    ///     talk.sent(&mut Slow, &mut replies);
+    ///     talk.position() // 6
+    pub fn sent<H: Handler, K: Sink, B: Allocator>(
+        &mut self,
+        handler: &mut H,
+        replies: &mut Replies<K, B>,
+    )
+        ensures converses { Converses H.answers H.refuses self.old.endings self.old.size
+            (supply_at self.old.is_at_end)
+            (place_of (record self.old { awaited = after_sent self.old.awaited }) handler.old)
+            replies.old (place_of self.new handler.new) replies.new }
+        ensures moves { OnlyMoves self.old self.new }
+    {
+        let mut searched = self.dialogue.buffer.len();
+        if self.is_sending() {
+            self.dialogue.awaited = Awaited::Input(Next::Line);
+            searched = 0;
+        }
+        let is_ended = self.dialogue.buffer.is_at_end();
+        self.dialogue.converse(handler, replies, is_ended, searched);
+    }
+
+    /// Returns `true` if the handler has asked for the next line once its replies are sent, and `sent` was not called
+    /// since.
+    ///
+    ///     let mut talk = Conversation::new(alloc, 64, Endings::Any)?;
+    ///     let writer = LineWriter::new(alloc, Output::new(Vec::new(alloc)), 64)?;
+    ///     let mut replies = Replies::new(writer, Ending::Lf);
+    ///     talk.feed(&mut Slow, b"ab\n", &mut replies) // 3
+    ///     talk.is_sending() // true
+    ///     talk.sent(&mut Slow, &mut replies);
+    ///     talk.is_sending() // false
+    pub fn is_sending(&self) -> bool
+        ensures { IsTrue result ↔ (self.now.awaited ≡ Awaited.Sending) }
+    {
+        matches!(self.dialogue.awaited, Awaited::Sending)
     }
 
     /// Awaits a line, whatever was awaited before, and carries out every step that the bytes that are held complete.
@@ -215,6 +277,7 @@ impl<A: Allocator> Conversation<A> {
         replies: &mut Replies<C, B>,
     )
         requires going { ¬ (IsOver self.old.awaited) }
+        requires waits { self.old.awaited ≢ Awaited.Sending }
         requires more { self.old.is_at_end ≡ false }
         ensures { ReadsOn H.answers H.refuses self.old handler.old replies.old self.new handler.new
             replies.new }
@@ -254,7 +317,7 @@ impl<A: Allocator> Conversation<A> {
     {
         match self.dialogue.awaited {
             Awaited::Nothing(stop) => Some(stop),
-            Awaited::Input(_) | Awaited::LineEnd(_) => None,
+            Awaited::Input(_) | Awaited::LineEnd(_) | Awaited::Sending => None,
         }
     }
 
@@ -309,7 +372,7 @@ impl<A: Allocator> Dialogue<A> {
             replies.old
             (place_at self.new.awaited handler.new self.new.start self.new.buffer.held)
             replies.new }
-        ensures unread { IsOver self.old.awaited
+        ensures unread { IsOver self.old.awaited ⊎ (self.old.awaited ≡ Awaited.Sending)
             ⊎ ((why : Stop) × (self.new.awaited ≡ Awaited.Nothing why) × IsUnread why) }
         ensures buffer { self.new.buffer ≡ self.old.buffer }
         ensures endings { self.new.endings ≡ self.old.endings }
@@ -327,7 +390,7 @@ impl<A: Allocator> Dialogue<A> {
                 self.awaited = Awaited::Nothing(Stop::Reader(LineError::Read));
             }
             Awaited::LineEnd(_) => self.awaited = Awaited::Nothing(Stop::Reader(LineError::Read)),
-            Awaited::Nothing(_) => {}
+            Awaited::Sending | Awaited::Nothing(_) => {}
         }
     }
 
@@ -411,7 +474,9 @@ impl<A: Allocator> Dialogue<A> {
                 )
             }
             Awaited::LineEnd(next) => self.skip(next, is_ended),
-            Awaited::Input(Next::Close) | Awaited::Nothing(_) => false,
+            Awaited::Input(Next::LineOnceSent | Next::Close)
+            | Awaited::Sending
+            | Awaited::Nothing(_) => false,
         }
     }
 
@@ -540,6 +605,7 @@ fn after_answer(next: Next) -> Awaited
 {
     match next {
         Next::Close => Awaited::Nothing(Stop::Closed),
+        Next::LineOnceSent => Awaited::Sending,
         Next::Line | Next::Part(_) => Awaited::Input(next),
     }
 }
@@ -549,7 +615,9 @@ fn after_fault(asked: Next, error: LineError, next: Next) -> Awaited
     ensures { GoesTo asked error next result }
 {
     match (asked, next) {
-        (Next::Line, Next::Line | Next::Part(_)) if !is_final(error) => Awaited::LineEnd(next),
+        (Next::Line, Next::Line | Next::LineOnceSent | Next::Part(_)) if !is_final(error) => {
+            Awaited::LineEnd(next)
+        }
         _ => Awaited::Nothing(Stop::Reader(error)),
     }
 }

@@ -5,7 +5,7 @@
 //! Replies are sent when the channel has to read its device before it can go on: so no reply waits for bytes that a
 //! client sends only after it, and the replies to requests that come together are gathered in the buffer.
 
-ghost use Rattle.std.specs.Prelude.{◌≡◌, ◌∷◌, [], IfOk, IsTrue, List};
+ghost use Rattle.std.specs.Prelude.{◌≡◌, ◌≢◌, ◌↔◌, ◌∷◌, [], IfOk, IsTrue, List};
 ghost use Rattle.std.specs.Str.{IsAscii};
 ghost use Rattle.ascii.specs.Lines.{Line};
 ghost use Rattle.ascii.specs.View.{text_of};
@@ -17,7 +17,7 @@ ghost use Rattle.ascii_lines.specs.Replies.{SaysPart, is_unbroken, line_given, l
 ghost use Rattle.ascii_lines.specs.Serve.{IsUp, RepliesToAll, SendsOut, Serves};
 ghost use Rattle.ascii_lines.specs.Wanted.{IsOne};
 
-use crate::conversation::Conversation;
+use crate::conversation::{Awaited, Conversation};
 use crate::line_buffer::LineBuffer;
 use crate::line_reader::{LineError, ReadLine, line_at};
 use crate::line_writer::{LineWriter, WriteError};
@@ -34,6 +34,9 @@ use std::marker::Model;
 pub enum Next {
     /// The next line.
     Line,
+    /// The next line, once the replies so far were sent: the handler is not asked again before they were. It is for
+    /// an answer that another step must not overtake or hold up, as that to a mail that was stored.
+    LineOnceSent,
     /// The next part of this number of bytes, of at least one. The handler is given it as it
     /// is: a protocol in which an ending follows a part asks for that as well.
     Part(usize),
@@ -334,7 +337,7 @@ impl<C: Channel> LineChannel<C> {
 
 impl<C: Channel, A: Allocator> LineChannel<C, A> {
     ghost use Rattle.std.specs.Prelude.{false};
-    ghost use Rattle.ascii_lines.specs.Serve.{Greets, ReadsOn, SoFar, saying_of};
+    ghost use Rattle.ascii_lines.specs.Serve.{Greets, GoesOn, ReadsOn, SoFar, saying_of};
     ghost use Rattle.ascii_lines.specs.Turns.{IsOver, stop_of};
     ghost use Rattle.ascii_lines.specs.Wanted.{KnowsEnd};
 
@@ -393,11 +396,27 @@ impl<C: Channel, A: Allocator> LineChannel<C, A> {
     /// Reads the device once, and takes all steps that can be taken.
     fn read<H: Handler>(&mut self, handler: &mut H)
         requires going { ¬ (IsOver self.old.state.talk.awaited) }
+        requires waits { self.old.state.talk.awaited ≢ Awaited.Sending }
         requires more { self.old.state.talk.is_at_end ≡ false }
         ensures { ReadsOn H.answers H.refuses self.old.state.talk handler.old (saying_of self.old)
             self.new.state.talk handler.new (saying_of self.new) }
     {
         self.conversation.read(handler, &mut self.replies);
+    }
+
+    /// Awaits a line, if the replies were to be sent first, and takes all steps that can be taken.
+    fn sent<H: Handler>(&mut self, handler: &mut H)
+        ensures { GoesOn H.answers H.refuses self.old.state.talk handler.old (saying_of self.old)
+            self.new.state.talk handler.new (saying_of self.new) }
+    {
+        self.conversation.sent(handler, &mut self.replies);
+    }
+
+    /// Whether the replies are to be sent first.
+    fn is_sending(&self) -> bool
+        ensures { IsTrue result ↔ (self.now.state.talk.awaited ≡ Awaited.Sending) }
+    {
+        self.conversation.is_sending()
     }
 
     /// Sends the replies.
@@ -424,7 +443,8 @@ impl<C: Channel, A: Allocator> LineChannel<C, A> {
 /// before has been answered, and every reply, with what the channel held before, has been sent and flushed; so it is
 /// when the conversation stops, unless the device failed to take them. Then the device has taken a prefix of the
 /// replies, nothing more is read, and the handler is not asked again. After a read that returned no bytes the device is
-/// not read again.
+/// not read again. After an answer that asks for `LineOnceSent`, every reply so far has been sent and flushed before the
+/// handler is asked again.
 ///
 /// If the handler gives each line one reply, asks for the next line and closes at an error, and the input ends, then
 /// the device has taken the reply to each line of the input.
@@ -458,7 +478,11 @@ pub fn serve<C: Channel, H: Handler, A: Allocator>(
         if let Some(stop) = lines.stop() {
             return stop;
         }
-        lines.read(handler);
+        if lines.is_sending() {
+            lines.sent(handler);
+        } else {
+            lines.read(handler);
+        }
     }
 }
 

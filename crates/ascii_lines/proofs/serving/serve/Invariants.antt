@@ -1,5 +1,5 @@
 use Rattle.ascii_lines.specs.Serve.{SoFar}
-use Rattle.ascii_lines.proofs.ServeLemmas.{reads_left}
+use Rattle.ascii_lines.proofs.ServeLemmas.{calls_left}
 use Rattle.ascii_lines.proofs.serving.serve.Given as goal
 
 -- the conversation was held so far
@@ -8,4 +8,4 @@ invariant-reads g l = SoFar g.H.Handler.answers g.H.Handler.refuses l.fn.lines.s
     l.lines.state l.handler
 
 abbrev pub decreases-reads : goal.decreases-reads
-decreases-reads g l = reads_left l.lines.state.talk
+decreases-reads g l = calls_left l.lines.state.talk

@@ -37,7 +37,9 @@ returns-in-Err g c =
       reads = (fills.outcome.0, refl);
       converses = rw (held, fills.size) at c.fail.ensures.converses;
       ended = grind arith;
-      unread = λ is. then_right c.fail.ensures.unread (rw (← c.self.view_is) at c.requires.going);
+      unread = λ is. then_right
+          (then_right c.fail.ensures.unread (rw (← c.self.view_is) at c.requires.going))
+          (rw (← c.self.view_is) at c.requires.waits);
       size = ap (λ (w : WindowState). w.size) c.fail.ensures.buffer ∙ fills.size;
       endings = c.fail.ensures.endings;
     })
