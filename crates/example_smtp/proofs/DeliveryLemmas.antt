@@ -9,13 +9,14 @@ use Rattle.std.proofs.lemmas.Grind.{flat_map-append}
 use Rattle.std.specs.List.{AllZip, flat_map}
 use Rattle.std.specs.Prelude.{All, MatchResult, codes}
 use Rattle.ascii.specs.Case.{lower_image}
-use Rattle.ascii_lines.specs.Replies.{Step, line_reply, skipped, took}
+use Rattle.ascii_lines.specs.Replies.{Step, line_reply, sent_out, skipped, took}
 use Rattle.ascii_lines.proofs.TurnsLemmas.{over_ends}
 use Rattle.ascii_lines.specs.Turns.{IsTurnAt, Place, Turns, awaited_by}
 use Rattle.ascii_lines.specs.declared.conversation.Supply.{Supply}
 use Rattle.ascii_lines.specs.declared.serving.Stop.TheVariants as stop
 use Rattle.ascii_lines.specs.declared.conversation.Awaited.{Awaited}
 use Rattle.ascii_lines.specs.declared.conversation.Awaited.TheVariants.{Input, LineEnd, Nothing}
+use Rattle.ascii_lines.specs.declared.conversation.Awaited.TheVariants.{Sending}
 use Rattle.ascii_lines.specs.Replies as serve
 use Rattle.ascii_lines.specs.declared.line_reader.LineError.{LineError}
 use Rattle.ascii_lines.specs.declared.line_reader.LineError.TheVariants as error
@@ -111,6 +112,19 @@ transcript endings size now a b (step ∷ steps) (mid, turn, turns) =
       folder = others.folder;
     }
 
+    sends : mid.handler ≡ a.handler → Transcript mid.handler steps b.handler
+        → Transcript a.handler (sent_out ∷ steps) b.handler
+    sends same others = record {
+      exchanges = others.exchanges;
+      given_up = others.given_up;
+      is_last = others.is_last;
+      are = others.are;
+      mid = others.mid;
+      runs = subst (λ s. Runs s others.exchanges others.mid) same others.runs;
+      kept = others.kept;
+      folder = others.folder;
+    }
+
     go : (awaited : Awaited) (step : Step) → Transcript mid.handler steps b.handler
         → IsTurnAt session_answers session_refuses endings size now awaited a step mid
         → Transcript a.handler (step ∷ steps) b.handler
@@ -171,6 +185,14 @@ transcript endings size now a b (step ∷ steps) (mid, turn, turns) =
     go (LineEnd asked) (skipped bytes) others t = skips bytes t.0 others
     go (LineEnd asked) (took input replies) others none = absurd none
     go (LineEnd asked) (serve.rejected error replies) others none = absurd none
+    go Sending sent_out others same =
+        sends (ap (λ (p : Place State). p.handler) same) others
+    go Sending (skipped bytes) others t =
+        skips bytes (ap (λ (p : Place State). p.handler) t.1) others
+    go Sending (took input replies) others none = absurd none
+    go Sending (serve.rejected error replies) others none = absurd none
+    go (Input asked) sent_out others none = absurd none
+    go (LineEnd asked) sent_out others none = absurd none
     go (Nothing why) step others none = absurd none
 
 -- ---- replies
@@ -203,7 +225,7 @@ not_begin NotStored apart is = omega (arith, ap first_codes is)
 not_begin Closing apart is = omega (arith, ap first_codes is)
 
 -- a reply other than 250 is another line
-not_end : (reply : Reply) → reply ≢ Done → reply_line reply ∷ [] ≢ reply_line Done ∷ []
+pub not_end : (reply : Reply) → reply ≢ Done → reply_line reply ∷ [] ≢ reply_line Done ∷ []
 not_end Done apart is = apart refl
 not_end Bye apart is = omega (arith, ap first_codes is)
 not_end SendLines apart is = omega (arith, ap first_codes is)

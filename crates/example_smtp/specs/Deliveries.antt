@@ -5,8 +5,10 @@ use Rattle.std.specs.Prelude.{length, map}
 use Rattle.std.specs.declared.option.Option.{Option}
 use Rattle.ascii.specs.Lines.{Line}
 use Rattle.ascii_lines.specs.Replies as serve
-use Rattle.ascii_lines.specs.Replies.{Step, line_reply, rejected, skipped, took}
-use Rattle.ascii_lines.specs.Serve.{ChannelState, Serves}
+use Rattle.ascii_devices.specs.declared.log.Event.{Event}
+use Rattle.ascii_lines.specs.Exchanges.{given_in}
+use Rattle.ascii_lines.specs.Replies.{Step, line_reply, rejected, sent_out, skipped, took}
+use Rattle.ascii_lines.specs.Serve.{AreSentFirst, ChannelState, Serves}
 use Rattle.ascii_lines.specs.declared.line_reader.LineError.{LineError}
 use Rattle.ascii_lines.specs.declared.serving.Next.{Next}
 use Rattle.ascii_lines.specs.declared.serving.Next.TheVariants as next
@@ -157,15 +159,27 @@ AreExchanges (rejected error replies ∷ steps) exchanges = (texts : List (List 
     × (others : List Exchange) × (replies ≡ map line_reply texts)
     × (exchanges ≡ record { line = None; replies = texts } ∷ others) × AreExchanges steps others
 AreExchanges (skipped bytes ∷ steps) exchanges = AreExchanges steps exchanges
+AreExchanges (sent_out ∷ steps) exchanges = AreExchanges steps exchanges
 
 -- the session gave up at a last line, or did not
 abbrev pub IsLast : List Exchange → Type 0
 IsLast exchanges = (exchanges ≡ []) ⊎ ((line : List ℕ) × (fault : Reply)
     × ((fault ≡ NoMemory) ⊎ (fault ≡ BadLine)) × (exchanges ≡ answered line fault ∷ []))
 
+-- the step in which a dot alone is answered by 250
+abbrev pub delivered : Line → Step
+delivered dot = took dot (line_reply (reply_line Done) ∷ [])
+
+-- after each 250 for a message the session was given nothing more; or the events of the channel
+-- begin with some that sent and flushed this reply, after all before it and before all after it
+abbrev pub SendsEach : ChannelState → List Event → List Step → Type 0
+SendsEach first events steps = (before : List Step) (dot : Line) (after : List Step)
+    → steps ≡ before ++ delivered dot ∷ after → dot.body ≡ codes "."
+    → (given_in after ≡ []) ⊎ AreSentFirst first events (before ++ delivered dot ∷ [])
+
 -- a conversation was held as `Serves` says. Its exchanges deliver the messages that the session has
 -- received, and its folder, if it has one, has stored these; and maybe there is a last exchange, at
--- which it gave up
+-- which it gave up. Each 250 for a message was sent before anything that was replied after it
 pub record ServesMail (old : ChannelState) (session : State) (why : Stop) (new : ChannelState)
     (last : State) : Type 0 where
   pub served : Serves session_answers session_refuses old session why new last
@@ -175,3 +189,4 @@ pub record ServesMail (old : ChannelState) (session : State) (why : Stop) (new :
   pub are : AreExchanges served.talk.steps (exchanges ++ given_up)
   pub delivers : Delivers exchanges (received_texts last)
   pub files : Files session.folder (received_texts last) last.folder
+  pub sent : SendsEach old served.talk.events served.talk.steps

@@ -156,11 +156,11 @@ abbrev pub TakesLine : Option Fault → State → List ℕ → State → Type 0
 TakesLine None old sent new = Keeps old sent new
 TakesLine (Some fault) old sent new = new ≡ old
 
--- the answer to a line of a message: a dot alone ends the message; to another line there is no
--- reply
+-- the answer to a line of a message: a dot alone ends the message, and the next line is asked for
+-- once the reply to it was sent; to another line there is no reply
 abbrev pub AnswersLine : State → List ℕ → List (List ℕ) → Next → State → Type 0
 AnswersLine old sent replies asked new = ((sent ≡ codes ".") × ((said : Reply)
-    × (replies ≡ reply_line said ∷ []) × (asked ≡ next.Line) × EndsMessage old said new))
+    × (replies ≡ reply_line said ∷ []) × (asked ≡ next.LineOnceSent) × EndsMessage old said new))
     ⊎ ((sent ≢ codes ".") × (replies ≡ []) × (asked ≡ next.Line)
     × TakesLine old.fault old sent new)
 

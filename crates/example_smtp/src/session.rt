@@ -235,7 +235,8 @@ impl<'a> Session<'a> {
         }
     }
 
-    /// Takes a line of a message: a dot alone ends the message, which is dropped if it has a fault.
+    /// Takes a line of a message: a dot alone ends the message, which is dropped if it has a fault. The reply to the dot is
+    /// to be sent before another message is taken.
     fn plan_line(&mut self, sent: AsciiStr<'_>) -> Result<Plan, AllocError>
         ensures answers { IfOk result (λ plan. AnswersLine self.old
             (text_of sent.entry) (texts_of plan.reply) plan.next self.new) }
@@ -243,14 +244,17 @@ impl<'a> Session<'a> {
         ensures kept { OnErr result
             ((self.new.received ≡ self.old.received) × (self.new.folder ≡ self.old.folder)) }
     {
-        let mut reply = None;
         if sent.eq_str(".") {
-            reply = Some(self.end_message()?);
-        } else if self.fault.is_none() {
+            return Ok(Plan {
+                reply: Some(self.end_message()?),
+                next: Next::LineOnceSent,
+            });
+        }
+        if self.fault.is_none() {
             self.keep_line(sent)?;
         }
         Ok(Plan {
-            reply,
+            reply: None,
             next: Next::Line,
         })
     }

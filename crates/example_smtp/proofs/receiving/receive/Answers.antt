@@ -4,6 +4,7 @@ use Rattle.example_smtp.specs.Deliveries.{Delivers}
 use Rattle.example_smtp.specs.Mail.{Mail}
 use Rattle.example_smtp.specs.Mailbox.{Files}
 use Rattle.example_smtp.proofs.DeliveryLemmas.{delivers_all, files_all, transcript}
+use Rattle.example_smtp.proofs.SendingLemmas.{sends_each}
 use Rattle.example_smtp.proofs.receiving.receive.Goals as goal
 
 pub returns : goal.returns
@@ -29,4 +30,6 @@ returns g c =
           (λ folder. Files c.args.session.now.folder (map (λ (mail : Mail). mail.text) told.mid.received)
           folder) (sym told.folder)
           (files_all told.exchanges c.args.session.now told.mid c.requires.session told.runs));
+      sent = sends_each c.args.lines.now.state c.serve.new.lines.state c.args.session.now
+          c.serve.new.handler served.talk;
     }
