@@ -3,9 +3,25 @@
 #![tactic(auto)]
 
 use crate::register::Register;
-use ascii_lines::{Conversation, Ending, Endings, LineWriter, Output, Replies, Sink};
+use ascii_lines::{Conversation, Ending, Endings, LineWriter, Output, Replies, Sink, WriteError};
 use std::alloc::Allocator;
 use std::io::{self, Read};
+
+/// Sends the replies, and goes on with the lines that wait for that, as often as the handler asks for it.
+fn send_all<K: Sink, A: Allocator, B: Allocator>(
+    talk: &mut Conversation<A>,
+    register: &mut Register,
+    replies: &mut Replies<K, B>,
+) -> Result<(), WriteError> {
+    'sends: for _ in 0..u64::MAX {
+        replies.flush()?;
+        if !talk.is_sending() {
+            break;
+        }
+        talk.sent(register, replies);
+    }
+    Ok(())
+}
 
 /// Feeds a conversation with bytes until it has taken all of them, or is over.
 fn feed_all<K: Sink, A: Allocator, B: Allocator>(
@@ -16,11 +32,11 @@ fn feed_all<K: Sink, A: Allocator, B: Allocator>(
 ) {
     let mut left = bytes;
     'feeds: for _ in 0..bytes.len() {
-        if left.is_empty() {
-            return;
-        }
         let n = talk.feed(register, left, replies);
         left = &left[n..];
+        if left.is_empty() || send_all(talk, register, replies).is_err() {
+            return;
+        }
     }
 }
 
@@ -38,7 +54,7 @@ pub fn main(rt: HostRuntime) -> io::Result<()> {
             Ok(n) => feed_all(&mut talk, &mut register, &block[..n], &mut replies),
             Err(_) => talk.fail(&mut register, &mut replies),
         }
-        if replies.flush().is_err() || talk.is_closed() {
+        if send_all(&mut talk, &mut register, &mut replies).is_err() || talk.is_closed() {
             break;
         }
     }

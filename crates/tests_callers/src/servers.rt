@@ -1,6 +1,6 @@
 //! Callers of a server: an echo, and a lamp of three verbs.
 
-ghost use Rattle.std.specs.Prelude.{◌≡◌, ◌++◌, ◌∷◌, [], IfOk, List, true};
+ghost use Rattle.std.specs.Prelude.{◌≡◌, ◌++◌, ◌∷◌, [], IfOk, List, false, true};
 ghost use Rattle.std.specs.List.{flat_map};
 ghost use Rattle.ascii.specs.Lines.{Line, LinesOf};
 ghost use Rattle.ascii.specs.View.{text_of};
@@ -113,8 +113,6 @@ pub struct Lamp {
 }
 
 impl Lamp {
-    ghost use Rattle.std.specs.Prelude.{false};
-
     /// Creates a lamp that is not lit.
     pub fn new() -> Lamp
         ensures { result.lit ≡ false }
@@ -229,4 +227,29 @@ pub fn feed_two<H: Handler, K: Sink, A: Allocator, B: Allocator>(
     }
     let m = talk.feed(handler, second, replies);
     m == second.len()
+}
+
+/// Feeds a conversation with bytes, sends the replies, and goes on with the bytes that are held if the handler has asked for
+/// that. Returns whether all bytes were taken and the replies sent; then the steps are those of one conversation.
+///
+/// Condition: the conversation is one that is fed.
+pub fn feed_and_send<H: Handler, K: Sink, A: Allocator, B: Allocator>(
+    talk: &mut Conversation<A>,
+    handler: &mut H,
+    bytes: &[u8],
+    replies: &mut Replies<K, B>,
+) -> bool
+    requires { talk.old.is_at_end ≡ false }
+    ensures { result ≡ true → (steps : List Step) × Turns H.answers H.refuses talk.old.endings
+        talk.old.size Supply.Open (place_with talk.old handler.old bytes.now) steps
+        (place_of talk.new handler.new) }
+{
+    let n = talk.feed(handler, bytes, replies);
+    if n < bytes.len() || replies.flush().is_err() {
+        return false;
+    }
+    if talk.is_sending() {
+        talk.sent(handler, replies);
+    }
+    true
 }
