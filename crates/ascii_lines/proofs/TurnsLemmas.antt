@@ -20,7 +20,7 @@ use Rattle.ascii_lines.specs.Turns.{Completes, Converses, Faults, GoesTo, IsOver
 use Rattle.ascii_lines.specs.Turns.{IsSearchedFor, IsSound, IsTurn, IsTurnAt, Lacks, Place, Rests}
 use Rattle.ascii_lines.specs.Turns.{SkipTurn, SkipsIn, SkipsTo, Stops, TalkState, TurnOutcome}
 use Rattle.ascii_lines.specs.Turns.{Turns, Wants, awaited_by, is_ended, left_of, place_at, place_of}
-use Rattle.ascii_lines.specs.Turns.{after_sent, place_with, supply_at, with_more}
+use Rattle.ascii_lines.specs.Turns.{place_sent, place_with, supply_at, with_more}
 use Rattle.ascii_lines.specs.Wanted.{MayBeLast, MustRead}
 use Rattle.ascii_lines.specs.declared.conversation.Awaited.{Awaited}
 use Rattle.ascii_lines.specs.declared.conversation.Awaited.TheVariants.{Input, LineEnd, Nothing}
@@ -318,8 +318,8 @@ pub sent_joins : {H K : Type 0} (answers : H → Line → List Reply → Next �
     → b.size ≡ a.size → b.is_at_end ≡ false → b.awaited ≡ Sending
     → Converses answers refuses a.endings a.size supply.Open (place_with a x first) out
     (place_of b y) mid
-    → Converses answers refuses b.endings b.size (supply_at b.is_at_end)
-    (place_of (record b { awaited = after_sent b.awaited }) y) between (place_of c z) said
+    → Converses answers refuses b.endings b.size (supply_at b.is_at_end) (place_sent b y) between
+    (place_of c z) said
     → (steps : List Step) × Turns answers refuses a.endings a.size supply.Open
     (place_with a x first) steps (place_of c z)
 sent_joins answers refuses a b c x y z out mid between said first same sized going is one two = (
@@ -342,7 +342,7 @@ module _ {H K : Type 0} (answers : H → Line → List Reply → Next → H → 
       (place_at awaited handler start text) out
   over_rests now awaited over rests = grind (arith, Says-nil)
 
-  -- one that awaits that the replies are sent takes no step, but for a device that has failed
+  -- one that awaits that the replies are sent takes no step, unless the device has failed
   pub sending_rests : (now : Supply) (awaited : Awaited) → awaited ≡ Sending
       → out.state.buffer.is_broken ≡ false
       → Converses answers refuses endings size now (place_at awaited handler start text) out

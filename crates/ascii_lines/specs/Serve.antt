@@ -19,7 +19,7 @@ use Rattle.ascii_lines.specs.LineBuffer.{FailsOnce, ReadsOnce}
 use Rattle.ascii_lines.specs.LineWriter.{FlushesOutcome, WritesLine, Writing, fresh_writer}
 use Rattle.ascii_lines.specs.Replies.{Reply, Saying, Step, reply_bytes, reply_text, sent_out}
 use Rattle.ascii_lines.specs.Turns.{Converses, IsOver, IsRequested, Lacks, OnlyMoves, Place}
-use Rattle.ascii_lines.specs.Turns.{TalkState, Turns, after_sent, fresh_talk, is_ended, place_of}
+use Rattle.ascii_lines.specs.Turns.{TalkState, Turns, fresh_talk, is_ended, place_of, place_sent}
 use Rattle.ascii_lines.specs.Turns.{place_with, supply_at}
 use Rattle.ascii_lines.specs.declared.conversation.Awaited.TheVariants.{Input, Nothing, Sending}
 use Rattle.ascii_lines.specs.declared.conversation.Supply.{Supply}
@@ -256,8 +256,7 @@ module _ {H C : Type 0} (answers : H → Line → List Reply → Next → H → 
   pub record GoesOn (old : TalkState) (handler : H) (out : Saying C) (new : TalkState) (last : H)
       (said : Saying C) : Type 0 where
     pub converses : Converses answers refuses old.endings old.size (supply_at old.is_at_end)
-        (place_of (record old { awaited = after_sent old.awaited }) handler) out
-        (place_of new last) said
+        (place_sent old handler) out (place_of new last) said
     pub moves : OnlyMoves old new
 
 module _ {H : Type 0} (answers : H → Line → List Reply → Next → H → Type 0)

@@ -228,6 +228,15 @@ place_of talk handler = record {
   text = talk.held;
 }
 
+-- where a conversation is with a handler once the replies were sent
+abbrev pub place_sent : {H : Type 0} → TalkState → H → Place H
+place_sent talk handler = record {
+  awaited = after_sent talk.awaited;
+  handler = handler;
+  start = talk.start;
+  text = talk.held;
+}
+
 -- a new conversation, in which a line is awaited
 abbrev pub fresh_talk : ℕ → Endings → TalkState
 fresh_talk size endings = record {

@@ -22,8 +22,8 @@ ghost use Rattle.std.specs.Prelude.{◌≡◌, ◌≢◌, ◌⊎◌, ◌<◌, �
 ghost use Rattle.std.specs.Prelude.{length, take, true};
 ghost use Rattle.ascii.specs.Endings.{any_text};
 ghost use Rattle.ascii_lines.specs.LineReader.{Finds, IsLookedFor, window_at};
-ghost use Rattle.ascii_lines.specs.Turns.{GoesTo, IsOver, SkipsIn, after_sent, awaited_by};
-ghost use Rattle.ascii_lines.specs.Turns.{fresh_talk, supply_at};
+ghost use Rattle.ascii_lines.specs.Turns.{GoesTo, IsOver, SkipsIn, awaited_by, fresh_talk};
+ghost use Rattle.ascii_lines.specs.Turns.{supply_at};
 
 use crate::line_buffer::LineBuffer;
 use crate::line_reader::LineError;
@@ -107,7 +107,8 @@ impl Conversation {
 impl<A: Allocator> Conversation<A> {
     ghost use Rattle.std.specs.Prelude.{false};
     ghost use Rattle.ascii_lines.specs.Serve.{ReadsOn};
-    ghost use Rattle.ascii_lines.specs.Turns.{Converses, OnlyMoves, place_of, place_with, stop_of};
+    ghost use Rattle.ascii_lines.specs.Turns.{Converses, OnlyMoves, place_of, place_sent};
+    ghost use Rattle.ascii_lines.specs.Turns.{place_with, stop_of};
 
     /// Takes bytes that came, as many as there is room for, and carries out every step that they complete. Returns
     /// the number of bytes that were taken: at least one, unless there are none, the conversation is over, or the
@@ -223,9 +224,8 @@ impl<A: Allocator> Conversation<A> {
         replies: &mut Replies<K, B>,
     )
         ensures converses { Converses H.answers H.refuses self.old.endings self.old.size
-            (supply_at self.old.is_at_end)
-            (place_of (record self.old { awaited = after_sent self.old.awaited }) handler.old)
-            replies.old (place_of self.new handler.new) replies.new }
+            (supply_at self.old.is_at_end) (place_sent self.old handler.old) replies.old
+            (place_of self.new handler.new) replies.new }
         ensures moves { OnlyMoves self.old self.new }
     {
         let mut searched = self.dialogue.buffer.len();
