@@ -104,6 +104,9 @@ DIALOGUES = [
     mail("a message of the most bytes", BEGUN, *[(THOUSAND * 1000, b"")] * 134, (THOUSAND * 217 + b"x" * 726 + b"\r\n.\r\n", OK)),
     mail("a message of a byte more", BEGUN, *[(THOUSAND * 1000, b"")] * 134, (THOUSAND * 217 + b"x" * 727 + b"\r\n.\r\n" + MAIL, LARGE + MAILED)),
     mail("a client that asks for extensions", (b"EHLO c\r\nEHLO \r\n", b"250 OK\r\n" + ARGUMENT)),
+    mail("commands without an argument", (b"HELO\r\nEHLO\r\nVRFY\r\nHELO  \r\nVRFY \t\r\n", ARGUMENT * 5)),
+    mail("white space after a command", (b"HELO c \t\r\nMAIL FROM:<a@b> \r\nRCPT TO:<c@d>\t\r\nDATA  \r\n. \r\n.\r\n", BEGUN[1] + OK),
+         (b"VRFY c \r\nRSET \r\nNOOP\t\r\nQUIT \r\n", NO_VRFY + OK * 2 + b"221 bye\r\n")),
     mail("a byte above 127", (b"NOOP\xc4\r\nQUIT\r\n", BAD + b"221 bye\r\n")),
     mail("a byte above 127 in a message", BEGUN, (b"caf\xc3\xa9\r\nline\r\n", b""), (b".\r\nQUIT\r\n", DROPPED)),
     mail("a mail after one that was dropped", BEGUN, (b"\xff\r\n.\r\n" + MAIL, b"554 bad message\r\n" + MAILED)),
@@ -250,9 +253,11 @@ class StoresMail(unittest.TestCase):
 
 
 class StoresInOrder(unittest.TestCase):
-    """The system calls of a delivery, in their order: the reply is written when all of them have returned."""
+    """The system calls of a delivery, in their order: the reply is written when all of them have returned, and before the file
+    of another mail in the same packet is created."""
 
     TEXT = b"one\r\ntwo\r\n"
+    MAILS = 2
 
     def __str__(self):
         return "example_smtp: the system calls of a delivery"
@@ -261,7 +266,7 @@ class StoresInOrder(unittest.TestCase):
         with tempfile.TemporaryDirectory() as folder, tempfile.TemporaryFile() as sent, tempfile.TemporaryFile() as said:
             for name in ("tmp", "new"):
                 (Path(folder) / name).mkdir()
-            sent.write(BEGUN[0] + self.TEXT + b".\r\n")
+            sent.write((BEGUN[0] + self.TEXT + b".\r\n") * self.MAILS)
             sent.seek(0)
             program = TOP / "crates/example_smtp/out/example_smtp"
             try:
@@ -269,7 +274,8 @@ class StoresInOrder(unittest.TestCase):
             except OSError as why:
                 self.skipTest(f"processes cannot be traced here: {why}")
         steps = self.steps(calls, folder)
-        self.assertEqual(steps[steps.index("create tmp"):], ["create tmp", self.TEXT, "sync tmp", "rename tmp new", "sync new", "reply"])
+        stored = ["create tmp", self.TEXT, "sync tmp", "rename tmp new", "sync new", "reply"]
+        self.assertEqual(steps[steps.index("create tmp"):], stored * self.MAILS)
 
     @staticmethod
     def steps(calls, folder):

@@ -267,15 +267,18 @@ long_name verb.Quit = lit≤ tt
 -- a dot does not say a command
 dot_says_nothing : (command : Command) → ¬ (Says (codes ".") command)
 dot_says_nothing command says =
-    let call = says.2 in
+    let trims = says.3 in
+    let call = says.4 in
     omega (
       arith,
+      ap length trims.joined,
+      length-append says.0 trims.cut,
       ap length call.is,
-      length-append call.other says.1,
+      length-append call.other says.2,
       ap length call.same,
       length-map call.other lower_image,
-      length-map (name_of says.0) lower_image,
-      long_name says.0,
+      length-map (name_of says.1) lower_image,
+      long_name says.1,
     )
 
 -- ---- an exchange outside a message
@@ -318,22 +321,22 @@ faulty old new exchange fault apart begins ends says same = record {
 fault_apart : (line : List ℕ) (fault : Reply) → IsFault line fault
     → (fault ≢ SendLines) × (fault ≢ Done)
 fault_apart line UnknownCommand is = (λ same. cc, λ same. cc)
-fault_apart line Bye is = absurd (let same : Bye ≡ BadArgument = is.3.0 in cc)
-fault_apart line Done is = absurd (let same : Done ≡ BadArgument = is.3.0 in cc)
-fault_apart line SendLines is = absurd (let same : SendLines ≡ BadArgument = is.3.0 in cc)
-fault_apart line Unverified is = absurd (let same : Unverified ≡ BadArgument = is.3.0 in cc)
+fault_apart line Bye is = absurd (let same : Bye ≡ BadArgument = is.5.0 in cc)
+fault_apart line Done is = absurd (let same : Done ≡ BadArgument = is.5.0 in cc)
+fault_apart line SendLines is = absurd (let same : SendLines ≡ BadArgument = is.5.0 in cc)
+fault_apart line Unverified is = absurd (let same : Unverified ≡ BadArgument = is.5.0 in cc)
 fault_apart line TooManyRecipients is =
-    absurd (let same : TooManyRecipients ≡ BadArgument = is.3.0 in cc)
+    absurd (let same : TooManyRecipients ≡ BadArgument = is.5.0 in cc)
 fault_apart line BadArgument is = (λ same. cc, λ same. cc)
-fault_apart line BadSequence is = absurd (let same : BadSequence ≡ BadArgument = is.3.0 in cc)
-fault_apart line LongLine is = absurd (let same : LongLine ≡ BadArgument = is.3.0 in cc)
-fault_apart line BadLine is = absurd (let same : BadLine ≡ BadArgument = is.3.0 in cc)
-fault_apart line NoMemory is = absurd (let same : NoMemory ≡ BadArgument = is.3.0 in cc)
-fault_apart line BadMessage is = absurd (let same : BadMessage ≡ BadArgument = is.3.0 in cc)
-fault_apart line NotStored is = absurd (let same : NotStored ≡ BadArgument = is.3.0 in cc)
+fault_apart line BadSequence is = absurd (let same : BadSequence ≡ BadArgument = is.5.0 in cc)
+fault_apart line LongLine is = absurd (let same : LongLine ≡ BadArgument = is.5.0 in cc)
+fault_apart line BadLine is = absurd (let same : BadLine ≡ BadArgument = is.5.0 in cc)
+fault_apart line NoMemory is = absurd (let same : NoMemory ≡ BadArgument = is.5.0 in cc)
+fault_apart line BadMessage is = absurd (let same : BadMessage ≡ BadArgument = is.5.0 in cc)
+fault_apart line NotStored is = absurd (let same : NotStored ≡ BadArgument = is.5.0 in cc)
 fault_apart line LargeMessage is =
-    absurd (let same : LargeMessage ≡ BadArgument = is.3.0 in cc)
-fault_apart line Closing is = absurd (let same : Closing ≡ BadArgument = is.3.0 in cc)
+    absurd (let same : LargeMessage ≡ BadArgument = is.5.0 in cc)
+fault_apart line Closing is = absurd (let same : Closing ≡ BadArgument = is.5.0 in cc)
 
 -- neither is the reply to an error of the input
 refusal_apart : (error : LineError) → (refusal_of error ≢ SendLines) × (refusal_of error ≢ Done)

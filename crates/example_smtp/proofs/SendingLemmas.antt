@@ -1,11 +1,8 @@
 -- The replies to messages are sent before the session is asked again.
-use Rattle.std.proofs.Common.{◌≡◌, ◌≢◌, ◌⊎◌, ◌∙◌, ℕ, List, [], ◌∷◌, ◌++◌, Some, ap, arith, inl, inr}
+use Rattle.std.proofs.Common.{◌≡◌, ◌≢◌, ◌∙◌, ℕ, List, [], ◌∷◌, ◌++◌, ap, inl, inr}
 use Rattle.std.proofs.Common.{map, refl, subst, sym}
 use Rattle.std.specs.Prelude.{codes}
 use Rattle.ascii.specs.Lines.{Line}
-use Rattle.ascii_devices.specs.declared.log.Event.{Event}
-use Rattle.ascii_lines.specs.Exchanges.{given_in}
-use Rattle.ascii_lines.specs.Replies as serve
 use Rattle.ascii_lines.specs.Replies.{line_reply}
 use Rattle.ascii_lines.specs.Serve.{ChannelState, Talk}
 use Rattle.ascii_lines.specs.Turns.{IsTurnAt, Place, awaited_by}
@@ -19,7 +16,6 @@ use Rattle.example_smtp.specs.Commands.{reply_line}
 use Rattle.example_smtp.specs.Deliveries.{Exchange, SendsEach, delivered, session_answers, session_refuses}
 use Rattle.example_smtp.specs.Mail.{State}
 use Rattle.example_smtp.specs.Session.{Answers, AnswersAt}
-use Rattle.example_smtp.specs.declared.commands.Reply.{Reply}
 use Rattle.example_smtp.specs.declared.commands.Reply.TheVariants.{BadLine, Done, NoMemory, SendLines}
 use Rattle.example_smtp.specs.declared.session.Stage.{Stage}
 use Rattle.example_smtp.specs.declared.session.Stage.TheVariants.{Greeting, Lines, Ready}

@@ -1,7 +1,9 @@
 -- The commands of a client, the lines that say them, and the lines that reply to them.
 use Rattle.std.specs.Prelude.{◌≡◌, ◌≢◌, ◌⊎◌, ℕ, List, [], MatchResult, codes}
 use Rattle.std.specs.declared.result.Result.{Result}
+use Rattle.ascii.specs.Class.{IsBlank}
 use Rattle.ascii.specs.Search.{IgnoringCase, IsPrefix, StartsWith}
+use Rattle.ascii.specs.Trim.{TrimsEnd}
 use Rattle.ascii.specs.View.{text_of}
 use Rattle.example_smtp.specs.Paths.{IsBetween, IsRecipient, IsSender}
 use Rattle.example_smtp.specs.declared.commands.Command.{Command}
@@ -15,15 +17,15 @@ use Rattle.example_smtp.specs.declared.commands.Verb.{Verb}
 use Rattle.example_smtp.specs.declared.commands.Verb.TheVariants.{Helo, Ehlo, Mail, Rcpt, Data, Rset}
 use Rattle.example_smtp.specs.declared.commands.Verb.TheVariants.{Noop, Quit, Vrfy}
 
--- the name of a verb, with what separates it from its argument
+-- the name of a verb; that of a path has the word before it
 abbrev pub name_of : Verb → List ℕ
-name_of Helo = codes "HELO "
-name_of Ehlo = codes "EHLO "
+name_of Helo = codes "HELO"
+name_of Ehlo = codes "EHLO"
 name_of Mail = codes "MAIL FROM:"
 name_of Rcpt = codes "RCPT TO:"
 name_of Data = codes "DATA"
 name_of Rset = codes "RSET"
-name_of Vrfy = codes "VRFY "
+name_of Vrfy = codes "VRFY"
 name_of Noop = codes "NOOP"
 name_of Quit = codes "QUIT"
 
@@ -31,21 +33,25 @@ name_of Quit = codes "QUIT"
 abbrev pub IsPath : List ℕ → List ℕ → Type 0
 IsPath address path = IsBetween (codes "<") (codes ">") path address
 
--- `argument` is as `verb` takes it: a domain, the path of a sender or of a recipient, a mailbox,
--- nothing or what a space starts, or nothing
+-- `argument` is a space and then `word`, which is not empty
+abbrev pub IsWord : List ℕ → List ℕ → Type 0
+IsWord word argument = IsPrefix (codes " ") argument word × (word ≢ [])
+
+-- `argument` is as `verb` takes it: a space and a domain, the path of a sender or of a recipient, a
+-- space and a mailbox, nothing or what a space starts, or nothing
 abbrev pub IsArgument : Verb → List ℕ → Type 0
-IsArgument Helo argument = argument ≢ []
-IsArgument Ehlo argument = argument ≢ []
+IsArgument Helo argument = (domain : List ℕ) × IsWord domain argument
+IsArgument Ehlo argument = (domain : List ℕ) × IsWord domain argument
 IsArgument Mail argument = (address : List ℕ) × IsPath address argument × IsSender address
 IsArgument Rcpt argument = (address : List ℕ) × IsPath address argument × IsRecipient address
-IsArgument Vrfy argument = argument ≢ []
+IsArgument Vrfy argument = (mailbox : List ℕ) × IsWord mailbox argument
 IsArgument Noop argument = (argument ≡ []) ⊎ StartsWith (codes " ") argument
 IsArgument verb argument = argument ≡ []
 
 -- `command` is the verb `verb` with the argument `argument`
 abbrev pub HasParts : Verb → List ℕ → Command → Type 0
 HasParts verb argument (Introduce domain) =
-    ((verb ≡ Helo) ⊎ (verb ≡ Ehlo)) × (argument ≡ text_of domain) × (argument ≢ [])
+    ((verb ≡ Helo) ⊎ (verb ≡ Ehlo)) × IsWord (text_of domain) argument
 HasParts verb argument (SetSender address) =
     (verb ≡ Mail) × IsPath (text_of address) argument × IsSender (text_of address)
 HasParts verb argument (AddRecipient address) =
@@ -53,7 +59,7 @@ HasParts verb argument (AddRecipient address) =
 HasParts verb argument BeginLines = (verb ≡ Data) × (argument ≡ [])
 HasParts verb argument Reset = (verb ≡ Rset) × (argument ≡ [])
 HasParts verb argument (Verify mailbox) =
-    (verb ≡ Vrfy) × (argument ≡ text_of mailbox) × (argument ≢ [])
+    (verb ≡ Vrfy) × IsWord (text_of mailbox) argument
 HasParts verb argument command.Reply =
     (verb ≡ Noop) × ((argument ≡ []) ⊎ StartsWith (codes " ") argument)
 HasParts verb argument Leave = (verb ≡ Quit) × (argument ≡ [])
@@ -70,17 +76,22 @@ BeginsWithVerb line verb = IgnoringCase (λ start. StartsWith start line) (name_
 abbrev pub IsCall : List ℕ → Verb → List ℕ → Type 0
 IsCall line verb argument = IgnoringCase (λ start. IsPrefix start line argument) (name_of verb)
 
+-- `said` is `line` without the spaces and tabs at its end
+abbrev pub IsSaid : List ℕ → List ℕ → Type 0
+IsSaid said line = TrimsEnd IsBlank line said
+
 -- `line` says `command`
 abbrev pub Says : List ℕ → Command → Type 0
-Says line command =
-    (verb : Verb) × (argument : List ℕ) × IsCall line verb argument × HasParts verb argument command
+Says line command = (said : List ℕ) × (verb : Verb) × (argument : List ℕ) × IsSaid said line
+    × IsCall said verb argument × HasParts verb argument command
 
 -- why `line` does not say a command. `UnknownCommand`: it does not begin with the name of a verb.
 -- Otherwise it is a verb with an argument at fault
 abbrev pub IsFault : List ℕ → Reply → Type 0
-IsFault line reply.UnknownCommand = (verb : Verb) → ¬ (BeginsWithVerb line verb)
-IsFault line fault = (verb : Verb) × (argument : List ℕ) × IsCall line verb argument
-    × IsPartsFault verb argument fault
+IsFault line reply.UnknownCommand =
+    (said : List ℕ) × IsSaid said line × ((verb : Verb) → ¬ (BeginsWithVerb said verb))
+IsFault line fault = (said : List ℕ) × (verb : Verb) × (argument : List ℕ) × IsSaid said line
+    × IsCall said verb argument × IsPartsFault verb argument fault
 
 -- `Ok`: the command that `line` says. `Err`: the reply that says why it does not say one
 abbrev pub ReadsCommand : List ℕ → Result Command Reply → Type 0

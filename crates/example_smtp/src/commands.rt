@@ -4,9 +4,10 @@ ghost use Rattle.std.specs.Prelude.{◌↔◌, ◌≡◌, IsTrue, List, MatchOpt
 ghost use Rattle.ascii.specs.Search.{StartsWith};
 ghost use Rattle.ascii.specs.View.{text_of};
 ghost use Rattle.example_smtp.specs.Commands.{BeginsWithVerb, HasParts, IsCall, IsPartsFault};
-ghost use Rattle.example_smtp.specs.Commands.{IsPath, ReadsCommand, name_of, reply_line};
+ghost use Rattle.example_smtp.specs.Commands.{IsPath, IsWord, ReadsCommand, name_of, reply_line};
 
 use crate::paths::{between, is_recipient, is_sender};
+use ascii::classes::Blank;
 use ascii_lines::AsciiStr;
 
 /// What a client may ask for.
@@ -33,18 +34,18 @@ pub enum Verb {
 }
 
 impl Verb {
-    /// Returns the name of the verb, with what separates it from its argument.
+    /// Returns the name of the verb.
     fn name(self) -> AsciiStr<'static>
         ensures { text_of result ≡ name_of self }
     {
         match self {
-            Verb::Helo => AsciiStr::literal("HELO "),
-            Verb::Ehlo => AsciiStr::literal("EHLO "),
+            Verb::Helo => AsciiStr::literal("HELO"),
+            Verb::Ehlo => AsciiStr::literal("EHLO"),
             Verb::Mail => AsciiStr::literal("MAIL FROM:"),
             Verb::Rcpt => AsciiStr::literal("RCPT TO:"),
             Verb::Data => AsciiStr::literal("DATA"),
             Verb::Rset => AsciiStr::literal("RSET"),
-            Verb::Vrfy => AsciiStr::literal("VRFY "),
+            Verb::Vrfy => AsciiStr::literal("VRFY"),
             Verb::Noop => AsciiStr::literal("NOOP"),
             Verb::Quit => AsciiStr::literal("QUIT"),
         }
@@ -141,11 +142,12 @@ pub struct Call<'a> {
     pub argument: AsciiStr<'a>,
 }
 
-/// Returns the command that the line says, or the reply that says why it does not say one.
+/// Returns the command that the line says, or the reply that says why it does not say one. Spaces and tabs at the end of the
+/// line belong to neither.
 pub fn read_command<'a>(line: AsciiStr<'a>) -> Result<Command<'a>, Reply>
     ensures { ReadsCommand (text_of line.entry) result }
 {
-    match read_verb(line) {
+    match read_verb(line.trim_end_matches::<Blank>()) {
         Some(call) => command_of(call.verb, call.argument),
         None => Err(Reply::UnknownCommand),
     }
@@ -205,9 +207,10 @@ fn command_of<'a>(verb: Verb, argument: AsciiStr<'a>) -> Result<Command<'a>, Rep
         (IsPartsFault verb (text_of argument.entry)) }
 {
     match verb {
-        Verb::Helo | Verb::Ehlo if !argument.is_empty() => {
-            Ok(Command::Introduce { domain: argument })
-        }
+        Verb::Helo | Verb::Ehlo => match word_of(argument) {
+            Some(domain) => Ok(Command::Introduce { domain }),
+            None => Err(Reply::BadArgument),
+        },
         Verb::Mail => match address_of(argument) {
             Some(address) if is_sender(address) => Ok(Command::SetSender { address }),
             _ => Err(Reply::BadArgument),
@@ -218,7 +221,10 @@ fn command_of<'a>(verb: Verb, argument: AsciiStr<'a>) -> Result<Command<'a>, Rep
         },
         Verb::Data if argument.is_empty() => Ok(Command::BeginLines),
         Verb::Rset if argument.is_empty() => Ok(Command::Reset),
-        Verb::Vrfy if !argument.is_empty() => Ok(Command::Verify { mailbox: argument }),
+        Verb::Vrfy => match word_of(argument) {
+            Some(mailbox) => Ok(Command::Verify { mailbox }),
+            None => Err(Reply::BadArgument),
+        },
         Verb::Noop if argument.is_empty() || starts_with_space(argument) => Ok(Command::Reply),
         Verb::Quit if argument.is_empty() => Ok(Command::Leave),
         _ => Err(Reply::BadArgument),
@@ -230,6 +236,19 @@ fn starts_with_space(text: AsciiStr<'_>) -> bool
     ensures { IsTrue result ↔ StartsWith (codes " ") (text_of text.entry) }
 {
     text.starts_with(AsciiStr::literal(" "))
+}
+
+/// Returns the text after the space with which the argument starts, or `None` if it does not, or there is no text.
+fn word_of<'a>(argument: AsciiStr<'a>) -> Option<AsciiStr<'a>>
+    ensures { MatchOption result
+        ((word : List ℕ) → ¬ (IsWord word (text_of argument.entry)))
+        (λ word. IsWord (text_of word) (text_of argument.entry)) }
+{
+    match argument.strip_prefix(AsciiStr::literal(" ")) {
+        Some(word) if word.is_empty() => None,
+        Some(word) => Some(word),
+        None => None,
+    }
 }
 
 /// Returns the address between `<` and `>`, or `None` if the path has not both.
