@@ -233,6 +233,7 @@ calls! {
     fn ask_buffered(size: usize, texts: &[u8], steps: &[Step], plan: &[Step]);
     fn ask_served(endings: u8, size: usize, source: &[u8], reads: &Device, writes: &Device);
     fn ask_fed(endings: u8, size: usize, source: &[u8], lengths: &[u8], fails: u8);
+    fn ask_sent(size: usize, source: &[u8], steps: &[u8]);
     fn ask_greeted(size: usize, greeting: &[u8], source: &[u8], reads: &Device, writes: &Device);
     fn ask_header(source: &[u8]);
     fn ask_headers(name: &[u8], block: &[u8]);

@@ -5,6 +5,7 @@ use super::{Row, Rows};
 use crate::asked::{Asked, Failed, Fault, Needs};
 use crate::calls::{self, Device, WHOLE};
 use crate::line_model::Stop;
+use crate::random::Random;
 
 pub static ROWS: &[Row] = &[
     ("replies_to_all_inputs_are_sent", |rows| {
@@ -28,6 +29,15 @@ pub static ROWS: &[Row] = &[
         let expected = Expected { why: Closed, count: Some(3), reads: Some(1), writes: Some(3), written };
         ask(rows, TOGETHER, ANY, 100, (WHOLE, WHOLE), &expected);
     }),
+    ("replies_that_are_sent_first_are_writes_of_their_own", |rows| {
+        // A flush before the only read, and then each time a write with its flush.
+        let written = "ok\r\nok\r\nok\r\nbye\r\n";
+        let expected = Expected { why: Closed, count: Some(4), reads: Some(1), writes: Some(7), written };
+        ask(rows, b"a\nhold\nhold\nquit\n", ANY, 100, (WHOLE, WHOLE), &expected);
+        // The sink fails at the first of these writes: then the handler is not asked again.
+        let expected = Expected { why: Writer, count: Some(2), reads: Some(1), writes: Some(2), written: "" };
+        ask(rows, b"a\nhold\nhold\nquit\n", ANY, 100, (WHOLE, Device { most: 100, fails: 1, ..WHOLE }), &expected);
+    }),
     ("a_device_is_not_read_after_its_end", |rows| {
         // A line that ends in a CR at the end of the input, after which the source would give more.
         let reads = Device { most: 3, empty: 1, ..WHOLE };
@@ -39,6 +49,7 @@ pub static ROWS: &[Row] = &[
     }),
     ("each_start_of_a_session_is_answered", each_start),
     ("each_cutting_of_an_input_is_answered_as_the_whole", each_cutting),
+    ("a_handler_is_not_asked_before_its_replies_were_sent", each_sending),
     ("a_greeting_comes_first", greetings),
 ];
 
@@ -64,7 +75,7 @@ const fn fault(name: &'static str, position: usize) -> Why {
 }
 
 /// An input, which endings end its lines, why the conversation stops, and what is written.
-static SESSIONS: [(&[u8], u8, Why, &str); 20] = [
+static SESSIONS: [(&[u8], u8, Why, &str); 24] = [
     (b"", ANY, END, ""),
     (b"a\nb", ANY, END, "ok\r\nok\r\n"),
     (b"two\r\nquit\nz\n", ANY, Closed, "one\r\ntwo\r\nbye\r\n"),
@@ -87,6 +98,11 @@ static SESSIONS: [(&[u8], u8, Why, &str); 20] = [
     (b"a\nquit\r\nb\r\n", STRICT, END, "bad break\nok\r\n"),
     (b"a\rb\r\nquit\r\n", STRICT, Closed, "bad break\nbye\r\n"),
     (b"a\r", STRICT, END, "bad break\n"),
+    // A reply that is sent before the next line is taken.
+    (b"hold\nhold\na", ANY, END, "ok\r\nok\r\nok\r\n"),
+    (b"hold\nquit\n\n", ANY, Closed, "ok\r\nbye\r\n"),
+    (b"a\nhold", ANY, END, "ok\r\nok\r\n"),
+    (b"a\nb\r\nhold\r\nc\r\n", STRICT, END, "bad break\nok\r\nok\r\n"),
 ];
 
 /// What a row knows of a conversation. `None` is what it does not say.
@@ -155,6 +171,102 @@ fn each_cutting(rows: &mut Rows) {
             expect(asked, Stops(Some(Fault("read", None))), &[None, None], written);
             fails_to_send(asked, written);
         });
+    }
+}
+
+/// A conversation of lines in a plain loop. Its handler asks after `hold` for the next line once its replies were sent.
+#[derive(Default)]
+struct Talk {
+    held: Vec<u8>,
+    start: usize,
+    count: usize,
+    is_sending: bool,
+    why: Option<Why>,
+    written: String,
+    /// The steps, and what is expected after each of them.
+    steps: Vec<u8>,
+    after: Vec<(usize, usize, bool)>,
+}
+
+impl Talk {
+    /// Answers the lines that are held, up to one after which the replies are to be sent.
+    fn answer(&mut self, is_ended: bool) {
+        while !self.is_sending && self.why.is_none() {
+            let line_end = self.held.iter().position(|byte| *byte == b'\n').map(|i| i + 1);
+            let last = (is_ended && !self.held.is_empty()).then_some(self.held.len());
+            let Some(end) = line_end.or(last) else {
+                self.why = is_ended.then_some(END);
+                return;
+            };
+            let line: Vec<u8> = self.held.drain(..end).collect();
+            self.start += end;
+            self.count += 1;
+            let text = line.strip_suffix(b"\n").unwrap_or(&line);
+            self.written.push_str(if text == b"quit" { "bye\r\n" } else { "ok\r\n" });
+            self.is_sending = text == b"hold";
+            self.why = (text == b"quit").then_some(Closed);
+        }
+    }
+
+    /// Takes a step with the bytes that came and were not taken.
+    fn step(&mut self, step: u8, left: &mut &[u8]) {
+        match step {
+            255 => self.is_sending = false,
+            254 => {}
+            length => {
+                let (taken, others) = left.split_at((length as usize).min(SIZE + 1 - self.held.len()));
+                self.held.extend(taken);
+                *left = others;
+            }
+        }
+        self.answer(step == 254);
+        self.steps.push(step);
+        self.after.push((left.len(), self.count, self.is_sending));
+    }
+}
+
+/// The size of the buffer of these conversations, which has room for a byte more.
+const SIZE: usize = 8;
+
+/// An event loop whose input comes in pieces of these lengths, and then the rest. In each round the client takes some bytes of
+/// the replies, `most` at most. If none are left, they were sent.
+fn loop_over(input: &[u8], lengths: &[u8], most: usize) -> Talk {
+    let (mut talk, mut left, mut taken) = (Talk::default(), input, 0);
+    let (mut pieces, mut came) = (lengths.iter(), 0);
+    while talk.why.is_none() {
+        let is_ended = came == input.len();
+        came = pieces.next().map_or(input.len(), |length| input.len().min(came + *length as usize));
+        let waits = came - (input.len() - left.len());
+        talk.step(if waits == 0 && is_ended { 254 } else { waits as u8 }, &mut left);
+        taken += most.min(talk.written.len() - taken);
+        if taken == talk.written.len() {
+            talk.step(255, &mut left);
+        }
+    }
+    talk
+}
+
+/// An input, whose lines are shorter than the buffer, in every cutting if it is short, and in some others.
+fn each_sending(rows: &mut Rows) {
+    let inputs = ["hold\nhold\na", "hold\n\nhold", "a\nhold\n\nb\n", "hold\nquit\na", "\n\nhold\n", ""];
+    let long = "hold\na\n\nhold\nhold\nbc\nhold\na\nhold";
+    let short = inputs.iter().flat_map(|input| (0..1 << input.len()).map(move |cuts| (*input, lengths(input.len(), cuts))));
+    let mut random = Random::new(1);
+    let others: Vec<_> = (0..500).map(|_| (long, (0..20).map(|_| random.below(9) as u8).collect())).collect();
+    for (input, lengths) in short.chain(others) {
+        for most in [1, 3, 100] {
+            let talk = loop_over(input.as_bytes(), &lengths, most);
+            rows.ask(|asked| {
+                calls::ask_sent(asked, SIZE, input.as_bytes(), &talk.steps);
+                asked.want.all(&talk.after);
+                match talk.why {
+                    Some(Closed) => asked.want.put("closed"),
+                    _ => asked.want.put(None::<usize>),
+                }
+                asked.want.put((talk.start, &talk.written));
+                fails_to_send(asked, &talk.written);
+            });
+        }
     }
 }
 

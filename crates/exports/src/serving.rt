@@ -60,10 +60,16 @@ pub fn ask_fed(
         left = others;
     }
     feed_whole(&mut talk, &mut words, left, &mut replies);
-    if fails == 0 {
-        talk.end(&mut words, &mut replies);
-    } else {
-        talk.fail(&mut words, &mut replies);
+    'ends: for _ in 0..=source.len() {
+        if fails == 0 {
+            talk.end(&mut words, &mut replies);
+        } else {
+            talk.fail(&mut words, &mut replies);
+        }
+        if talk.is_closed() {
+            break;
+        }
+        talk.sent(&mut words, &mut replies);
     }
     answer.put(talk.stop().unwrap_or(Stop::Closed));
     let _ = replies.flush();
@@ -71,7 +77,43 @@ pub fn ask_fed(
     answer.put((words.count, talk.position(), written.as_slice()));
 }
 
-/// Feeds a conversation with a piece of an input until it has taken all bytes, or is over.
+/// What a conversation without a device does in each of these steps, and then as `ask_fed`. A step is the number of bytes that
+/// it is fed with, after those that it took; 255, by which the replies were sent; 254, the end of the source; or 253, its
+/// failure. After each step: the bytes that it did not take, the calls of the handler that answered, and whether it awaits that
+/// the replies are sent.
+pub fn ask_sent(alloc: Global, size: usize, source: &[u8], steps: &[u8], answer: &mut Answer) {
+    let Ok(mut talk) = Conversation::new(alloc, size, Endings::Any) else {
+        return answer.put(AllocError);
+    };
+    let Ok(writer) = LineWriter::new(alloc, Output::new(Vec::new(alloc)), 64) else {
+        return answer.put(AllocError);
+    };
+    let mut replies = Replies::new(writer, Ending::CrLf);
+    let mut words = Words { count: 0 };
+    let mut left = source;
+    'steps: for step in steps {
+        match *step {
+            255 => talk.sent(&mut words, &mut replies),
+            254 => talk.end(&mut words, &mut replies),
+            253 => talk.fail(&mut words, &mut replies),
+            length => {
+                let (piece, _) = left.split_at((length as usize).min(left.len()));
+                let n = talk.feed(&mut words, piece, &mut replies);
+                left = &left[n..];
+            }
+        }
+        answer.put((left.len(), words.count, talk.is_sending()));
+    }
+    match talk.stop() {
+        Some(stop) => answer.put(stop),
+        None => answer.put("open"),
+    }
+    let _ = replies.flush();
+    let written = replies.into_writer().into_sink().into_inner();
+    answer.put((talk.position(), written.as_slice()));
+}
+
+/// Feeds a conversation with a piece of an input until it has taken all bytes, or is over. The replies are sent at once.
 fn feed_whole<K: Sink, A: Allocator, B: Allocator>(
     talk: &mut Conversation<A>,
     words: &mut Words,
@@ -85,6 +127,9 @@ fn feed_whole<K: Sink, A: Allocator, B: Allocator>(
         }
         let n = talk.feed(words, left, replies);
         left = &left[n..];
+        'sends: for _ in 0..=piece.len() {
+            talk.sent(words, replies);
+        }
     }
 }
 
@@ -148,13 +193,15 @@ struct Words {
 }
 
 impl Words {
-    /// The lines that reply to a text, and what comes next. After `part` comes a part, which is answered as a line is.
+    /// The lines that reply to a text, and what comes next. After `part` comes a part, which is answered as a line is; after
+    /// `hold` the next line, once the replies were sent.
     fn reply(count: u8, text: AsciiStr) -> (&'static str, Next)
         ensures { IsRequest result.1 }
     {
         match text.as_str() {
             "part" => ("", Next::Part(4)),
             "two" => ("one\r\ntwo\r\n", Next::Line),
+            "hold" => ("ok\r\n", Next::LineOnceSent),
             _ if count > 9 => ("many\r\n", Next::Line),
             _ => ("ok\r\n", Next::Line),
         }
@@ -166,7 +213,7 @@ impl Words {
     {
         match error {
             LineError::NotAscii(_) => ("bad byte\n", Next::Line),
-            LineError::LoneBreak(_) => ("bad break\n", Next::Line),
+            LineError::LoneBreak(_) => ("bad break\n", Next::LineOnceSent),
             LineError::TooLong(_) => ("too long\n", Next::Part(2)),
             _ => ("closed\n", Next::Close),
         }
