@@ -14,6 +14,7 @@ use Rattle.ascii_lines.specs.declared.conversation.Awaited.TheVariants.{Sending}
 use Rattle.ascii_lines.specs.declared.conversation.Supply.{Supply}
 use Rattle.ascii_lines.specs.declared.line_reader.LineError.{LineError}
 use Rattle.ascii_lines.specs.declared.serving.Next.{Next}
+use Rattle.ascii_lines.specs.declared.serving.Next.TheVariants as next
 use Rattle.ascii_lines.specs.declared.serving.Stop.TheVariants as stop
 use Rattle.ascii_lines.proofs.StepLemmas.{requests, some_given}
 use Rattle.ascii_lines.proofs.TurnsLemmas.{over_ends, turn_bytes}
@@ -151,3 +152,36 @@ module _ {H : Type 0} (answers : H → Line → List Reply → Next → H → Ty
       absurd (rw is at turn)
   sends_first P a b past (rejected error said ∷ steps) is (mid, turn, turns) ordered =
       absurd (rw is at turn)
+
+-- ---- handlers that do not ask for that
+
+-- it is awaited that replies are sent, or will be after the rest of a line
+abbrev pub SendsLater : Awaited → Type 0
+SendsLater awaited = (awaited ≡ Sending) ⊎ (awaited ≡ LineEnd next.LineOnceSent)
+
+module _ {H : Type 0} (answers : H → Line → List Reply → Next → H → Type 0)
+    (refuses : H → LineError → List Reply → Next → H → Type 0)
+    (answers_none : (old : H) (input : Line) (replies : List Reply) (asked : Next) (new : H)
+    → answers old input replies asked new → asked ≢ next.LineOnceSent)
+    (refuses_none : (old : H) (error : LineError) (replies : List Reply) (asked : Next) (new : H)
+    → refuses old error replies asked new → asked ≢ next.LineOnceSent) (endings : Endings)
+    (size : ℕ) (now : Supply) where
+  turn_sends_none : (a b : Place H) (step : Step) → ¬ (SendsLater a.awaited)
+      → IsTurn answers refuses endings size now a step b → ¬ (SendsLater b.awaited)
+  turn_sends_none a b step none turn = go a.awaited step none turn
+    where
+      go : (awaited : Awaited) (step : Step) → ¬ (SendsLater awaited)
+          → IsTurnAt answers refuses endings size now awaited a step b → ¬ (SendsLater b.awaited)
+      go (Input asked) (took input said) none t later = grind arith
+      go (Input asked) (rejected error said) none t later = grind arith
+      go (Input asked) (skipped bytes) none t later = grind arith
+      go (LineEnd then) (skipped bytes) none t later = grind arith
+      go Sending step none t later = none (inl refl)
+      go _ _ none t later = absurd t
+
+  -- in a conversation with such a handler it is never awaited that replies are sent
+  pub never_sends : (a b : Place H) (steps : List Step) → ¬ (SendsLater a.awaited)
+      → Turns answers refuses endings size now a steps b → ¬ (SendsLater b.awaited)
+  never_sends a b [] none same = rw same none
+  never_sends a b (step ∷ steps) none (mid, turn, turns) =
+      never_sends mid b steps (turn_sends_none a mid step none turn) turns

@@ -5,17 +5,17 @@ ghost use Rattle.std.specs.List.{flat_map};
 ghost use Rattle.ascii.specs.Lines.{Line, LinesOf};
 ghost use Rattle.ascii.specs.View.{text_of};
 ghost use Rattle.ascii_lines.specs.Serve.{RepliesToAll};
-ghost use Rattle.ascii_lines.specs.Replies.{Says, line_reply};
-ghost use Rattle.ascii_lines.specs.Exchanges.{said_in};
+ghost use Rattle.ascii_lines.specs.Replies.{Reply, Says, line_reply};
+ghost use Rattle.ascii_lines.specs.Exchanges.{IsReplier, said_in};
 ghost use Rattle.ascii_lines.specs.Replies.{Step};
 ghost use Rattle.ascii_lines.specs.Serve.{IsUp};
-ghost use Rattle.ascii_lines.specs.Turns.{Turns, place_of, place_with};
+ghost use Rattle.ascii_lines.specs.Turns.{IsOver, Turns, place_of, place_with};
 ghost use Rattle.tests_callers.specs.Servers.{Accounts, ServesLamp, echo_reply, lit_after, reply_line};
 ghost use Rattle.tests_callers.specs.Servers.{reply_to};
 
 use ascii_lines::{
-    AsciiStr, Channel, Conversation, Duplex, Ending, Endings, Handler, LineChannel, LineError,
-    Next, Replies, Sink, Stop, Supply, serve,
+    AsciiStr, Awaited, Channel, Conversation, Duplex, Ending, Endings, Handler, LineChannel,
+    LineError, Next, Replies, Sink, Stop, Supply, serve,
 };
 use std::alloc::{AllocError, Allocator, Global};
 
@@ -252,4 +252,20 @@ pub fn feed_and_send<H: Handler, K: Sink, A: Allocator, B: Allocator>(
         talk.sent(handler, replies);
     }
     true
+}
+
+/// Ends the input of a conversation that awaits a line. If the handler gives each line one reply, asks for the next line and
+/// closes at an error, the conversation is over: it never awaits that the replies are sent.
+///
+/// Condition: the conversation awaits a line.
+pub fn end_all<H: Handler, K: Sink, A: Allocator, B: Allocator>(
+    talk: &mut Conversation<A>,
+    handler: &mut H,
+    replies: &mut Replies<K, B>,
+)
+    requires { talk.old.awaited ≡ Awaited.Input Next.Line }
+    ensures { (reply : Line → Reply) → IsReplier H.answers H.refuses reply
+        → IsOver talk.new.awaited }
+{
+    talk.end(handler, replies);
 }
