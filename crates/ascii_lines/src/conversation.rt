@@ -11,8 +11,8 @@
 //! | the replies were sent | `sent`, if `is_sending`; then `is_closed`, and `stop` for the reason |
 //!
 //! A handler that asks for `Next::LineOnceSent` is not asked again before the caller says by `sent` that its replies
-//! were sent. Until then bytes are held, as many as there is room for, and no step is carried out. `end` and `fail` are
-//! called again after it.
+//! were sent. Until then `feed` holds bytes, as many as there is room for, and no call carries out a step; the caller
+//! calls `end` or `fail` again after `sent`.
 //!
 //! How the bytes are cut changes nothing: feeding one piece and then another is feeding both together. A contract
 //! speaks of the bytes that were fed, of what is awaited, and of the replies; no call has a condition. `serve` is a
@@ -237,8 +237,7 @@ impl<A: Allocator> Conversation<A> {
         self.dialogue.converse(handler, replies, is_ended, searched);
     }
 
-    /// Returns `true` if the handler has asked for the next line once its replies are sent, and `sent` was not called
-    /// since.
+    /// Returns `true` if the handler is not asked again before the caller says by `sent` that the replies were sent.
     ///
     ///     let mut talk = Conversation::new(alloc, 64, Endings::Any)?;
     ///     let writer = LineWriter::new(alloc, Output::new(Vec::new(alloc)), 64)?;
