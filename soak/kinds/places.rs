@@ -50,14 +50,17 @@ fn part_by(text: &[u8], part: Part, step: Step, prefix: &[u8]) -> Result<Part, O
         6 => Ok((start, digits)),
         7 => Ok((digits, end)),
         8 => Ok(quoted_parts(text, part, step.code)?.0),
-        _ => Ok(quoted_parts(text, part, step.code)?.1),
+        9 => Ok(quoted_parts(text, part, step.code)?.1),
+        10 => (found == Some(start)).then_some((start + 1, end)).ok_or(NOTHING),
+        11 => (start < digits).then_some((start, digits)).ok_or(NOTHING),
+        _ => (start < digits).then_some((digits, end)).ok_or(NOTHING),
     }
 }
 
 pub fn parts(random: &mut Random, asked: &mut Asked) {
     let text = random.text();
     let (mut texts, mut steps) = (Vec::new(), Vec::new());
-    for kind in random.script(10) {
+    for kind in random.script(13) {
         let (code, at) = (random.code_of(&text), random.place(text.len() / 2));
         let start = texts.len();
         texts.extend(random.needle(&text));

@@ -68,6 +68,8 @@ pub fn ask_find_character(code: u8, text: Vec<u8>, asked: &mut Asked) {
     calls::ask_find_character(asked, code, &text);
     let (text, on, want) = (string(text), code as char, &mut asked.want);
     want.put((text.find(on), text.rfind(on), text.split_once(on), text.rsplit_once(on)));
+    want.put((text.starts_with(on), text.strip_prefix(on)));
+    want.put(text.as_bytes().split_first().map(|(first, rest)| (*first, rest)));
 }
 
 /// Asks a finder, and one that ignores case, for its needle in a text, and for the lines that contain it, by a script from

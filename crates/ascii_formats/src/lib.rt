@@ -9,6 +9,7 @@
 //! |---|---|
 //! | a whole number, in a radix, or at the start of a view | `to_number`, `to_number_radix`, `take_number` |
 //! | a decimal number | `to_decimal` |
+//! | the first character of a view, or what comes after it | `split_first`, `starts_with_char`, `strip_prefix_char` |
 //! | a quoted text at the start of a view | `take_quoted` |
 //! | a view in escapes or in caret notation; escapes read back | `EscapeAscii`, `Caret`; `unescape` |
 //! | a part that keeps its position, for parsers; a line and a column | `Part`; `line_and_column`, `fault_at` |

@@ -6,7 +6,8 @@
 //! | `text`, `len`, `is_empty` | what is in the part |
 //! | `trim` | the part without the whitespace at its ends |
 //! | `split_once`, `split_at`, `span` | the two sides of a cut |
-//! | `strip_prefix` | what comes after a prefix |
+//! | `take_some` | the characters of a class at the start, one at least, and the rest |
+//! | `strip_prefix`, `strip_prefix_char` | what comes after a prefix |
 //! | `quoted` | a quoted text, and what comes after it |
 //! | `to_number` | a number, or an error with the position in the whole text |
 //! | `line_and_column`, `fault` | the line and the column of the start; what is wrong there |
@@ -24,8 +25,9 @@
 //! `end` by equations. So the measure of a loop that takes from the start of `rest` is
 //! `l.rest.end - l.rest.start`. Nothing here allocates.
 
-ghost use Rattle.std.specs.Prelude.{◌≡◌, ◌≤◌, ◌↔◌, ◌+◌, ◌-◌, [], Some, IfOk, IfSome, IsTrue};
-ghost use Rattle.std.specs.Prelude.{MatchOption, MatchResult, drop, length, take};
+ghost use Rattle.std.specs.Prelude.{◌≡◌, ◌≢◌, ◌<◌, ◌≤◌, ◌↔◌, ◌+◌, ◌-◌, [], ◌∷◌, Some, IfOk};
+ghost use Rattle.std.specs.Prelude.{IfSome, IsTrue, MatchOption, MatchResult, drop, length, slice_get};
+ghost use Rattle.std.specs.Prelude.{take};
 ghost use Rattle.std.proofs.Props.{props};
 ghost use Rattle.ascii.specs.Class.{IsWhitespace};
 ghost use Rattle.ascii.specs.Code.{code_of};
@@ -207,6 +209,28 @@ impl<'a> Part<'a> {
         (self.front(front), self.rest(rest))
     }
 
+    /// Returns the characters at the start of the part that are in the class, and the rest, or `None` if
+    /// the part does not start with one. The rest is shorter than the part.
+    ///
+    ///     Part::of(AsciiStr::literal("42px")).take_some::<Digit>() // Some((0..2 "42", 2..4 "px"))
+    ///     Part::of(AsciiStr::literal("px")).take_some::<Digit>() // None
+    #[tactic(auto, using(crate::proofs::PartsLemmas::part_lengths))]
+    pub fn take_some<C: Searched>(self) -> Option<(Part<'a>, Part<'a>)>
+        ensures text { MatchOption result
+            (IfSome (slice_get (part_text self.entry) 0) (λ first. ¬ (C.is first)))
+            (λ sides. IsSpan C.is (part_text self.entry)
+            (part_text sides.0) (part_text sides.1)) }
+        ensures some { IfSome result (λ sides. part_text sides.0 ≢ []) }
+        ensures place { IfSome result (AreSidesOf 0 self.entry) }
+        ensures shorter { IfSome result (λ sides. self.entry.start < sides.1.start) }
+    {
+        let sides = self.span::<C>();
+        if sides.0.is_empty() {
+            return None;
+        }
+        Some(sides)
+    }
+
     /// Returns the part without `prefix`, or `None` if the part does not start with it.
     ///
     ///     Part::of(AsciiStr::literal("foobar")).strip_prefix(AsciiStr::literal("foo")) // Some(3..6 "bar")
@@ -220,6 +244,21 @@ impl<'a> Part<'a> {
             (IsRestFrom (self.entry.start + length (text_of prefix.entry)) self.entry) }
     {
         let rest = self.text().strip_prefix(prefix)?;
+        Some(self.rest(rest))
+    }
+
+    /// Returns the part after `ch`, or `None` if the part does not start with it. Constant time.
+    ///
+    ///     Part::of(AsciiStr::literal("#x")).strip_prefix_char(AsciiChar::Hash) // Some(1..2 "x")
+    ///     Part::of(AsciiStr::literal("x#")).strip_prefix_char(AsciiChar::Hash) // None
+    #[tactic(auto, using(crate::proofs::PartsLemmas::part_lengths))]
+    pub fn strip_prefix_char(self, ch: AsciiChar) -> Option<Part<'a>>
+        ensures text { MatchOption result
+            (¬ (StartsWith (code_of ch ∷ []) (part_text self.entry)))
+            (λ rest. IsPrefix (code_of ch ∷ []) (part_text self.entry) (part_text rest)) }
+        ensures place { IfSome result (IsRestFrom (self.entry.start + 1) self.entry) }
+    {
+        let rest = self.text().strip_prefix_char(ch)?;
         Some(self.rest(rest))
     }
 

@@ -1,7 +1,9 @@
 //! The calls of a view that read formats.
 
-ghost use Rattle.std.specs.Prelude.{◌≡◌, ℕ, ◌≤◌, List, MatchResult, length};
+ghost use Rattle.std.specs.Prelude.{◌≡◌, ℕ, ◌≤◌, ◌↔◌, List, [], ◌∷◌, IsTrue, MatchOption};
+ghost use Rattle.std.specs.Prelude.{MatchResult, length};
 ghost use Rattle.ascii.specs.Code.{code_of};
+ghost use Rattle.ascii.specs.Search.{IsPrefix, StartsWith};
 ghost use Rattle.ascii.specs.View.{text_of};
 ghost use Rattle.ascii_formats.specs.Decimals.{IsDecimalFault, WritesDecimal};
 ghost use Rattle.ascii_formats.specs.Numbers.{IsFaultIn, IsStartFault, StartsWithNumber};
@@ -18,10 +20,37 @@ use crate::unescape::{UnescapeError, unescape_into};
 use ascii::{AsciiChar, AsciiRange, AsciiStr, AsciiString};
 use std::alloc::Allocator;
 
-/// The calls of a view that read numbers, quotes and escapes, and find a line and a column.
+/// The calls of a view that read its first character, numbers, quotes and escapes, and find a line and a
+/// column.
 pub trait AsciiStrExt: Sized {
     // the codes of the text
     ghost codes: { Self → List ℕ };
+
+    /// Returns the first character and the view after it, or `None` if the view is empty. Constant time.
+    ///
+    ///     AsciiStr::literal("abc").split_first() // Some(('a', "bc"))
+    ///     AsciiStr::literal("").split_first() // None
+    fn split_first(self) -> Option<(AsciiChar, Self)>
+        ensures { MatchOption result (codes self ≡ [])
+            (λ split. codes self ≡ code_of split.0 ∷ codes split.1) };
+
+    /// Returns `true` if the view starts with `ch`. Constant time.
+    ///
+    /// To take the view after it too, use `strip_prefix_char`.
+    ///
+    ///     AsciiStr::literal("#x").starts_with_char(AsciiChar::Hash) // true
+    ///     AsciiStr::literal("x#").starts_with_char(AsciiChar::Hash) // false
+    ///     AsciiStr::literal("").starts_with_char(AsciiChar::Hash) // false
+    fn starts_with_char(self, ch: AsciiChar) -> bool
+        ensures { IsTrue result ↔ StartsWith (code_of ch ∷ []) (codes self) };
+
+    /// Returns the view after `ch`, or `None` if the view does not start with it. Constant time.
+    ///
+    ///     AsciiStr::literal("##x").strip_prefix_char(AsciiChar::Hash) // Some("#x")
+    ///     AsciiStr::literal("x#").strip_prefix_char(AsciiChar::Hash) // None
+    fn strip_prefix_char(self, ch: AsciiChar) -> Option<Self>
+        ensures { MatchOption result (¬ (StartsWith (code_of ch ∷ []) (codes self)))
+            (λ rest. IsPrefix (code_of ch ∷ []) (codes self) (codes rest)) };
 
     /// Returns the number that the decimal digits of the view write, or an error with the first
     /// position at fault.
@@ -158,6 +187,23 @@ pub trait AsciiStrExt: Sized {
 
 impl<'a> AsciiStrExt for AsciiStr<'a> {
     ghost codes = { text_of };
+
+    fn split_first(self) -> Option<(AsciiChar, AsciiStr<'a>)> {
+        let first = self.first()?;
+        Some((first, self.slice(AsciiRange::From(1))))
+    }
+
+    fn starts_with_char(self, ch: AsciiChar) -> bool {
+        self.strip_prefix_char(ch).is_some()
+    }
+
+    fn strip_prefix_char(self, ch: AsciiChar) -> Option<AsciiStr<'a>> {
+        let (first, rest) = self.split_first()?;
+        if first != ch {
+            return None;
+        }
+        Some(rest)
+    }
 
     fn to_number<N: Number>(self) -> Result<N, NumberError> {
         self.to_number_radix(10)

@@ -6,6 +6,7 @@ ghost use Rattle.std.specs.Prelude.{◌≡◌, All, IfErr, IfOk, MatchResult};
 ghost use Rattle.examples.specs.Entries.{ArePartsOf, IsEntryOf, IsErrorIn, IsFaultOf, SaysFault};
 
 use ascii::{AsciiChar, AsciiStr, text};
+use ascii_formats::AsciiStrExt;
 use ascii_formats::parts::Part;
 use std::alloc::Global;
 use std::io::{self, Read};
@@ -104,10 +105,10 @@ fn read_body<'a>(body: Part<'a>) -> Result<Parsed<'a>, IniError<'a>>
     ensures parts { IfOk result (ArePartsOf body.entry.whole) }
     ensures fault { IfErr result (IsFaultOf body.entry) }
 {
-    if body.is_empty() || body.text().starts_with(AsciiStr::literal(";")) {
+    if body.is_empty() || body.text().starts_with_char(AsciiChar::Semicolon) {
         return Ok(Parsed::Blank);
     }
-    if let Some(rest) = body.strip_prefix(AsciiStr::literal("[")) {
+    if let Some(rest) = body.strip_prefix_char(AsciiChar::BracketOpen) {
         return match rest.split_once(AsciiChar::BracketClose) {
             Some((name, after)) if after.is_empty() => Ok(Parsed::Section(name)),
             _ => Err(IniError::At(body, What::OpenSection)),

@@ -66,7 +66,7 @@ fn checked_body<'a>(line: AsciiStr<'a>) -> Result<AsciiStr<'a>, FixError>
     ensures { IfOk result (λ body. IsSentence (text_of line.entry) (text_of body)) }
 {
     let missing = FixError::NoSentence;
-    let rest = line.strip_prefix(AsciiStr::literal("$")).ok_or(missing)?;
+    let rest = line.strip_prefix_char(AsciiChar::Dollar).ok_or(missing)?;
     let (body, digits) = rest.rsplit_once(AsciiChar::Asterisk).ok_or(missing)?;
     let sum = digits.to_number_radix::<u8>(16).map_err(|_| missing)?;
     match checksum(body) {

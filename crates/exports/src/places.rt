@@ -47,7 +47,10 @@ fn part_by<'a>(part: Part<'a>, step: Step, texts: AsciiStr) -> Result<Part<'a>, 
         6 => Ok(part.span::<Digit>().0),
         7 => Ok(part.span::<Digit>().1),
         8 => Ok(quoted_part(part, ch)?.0),
-        _ => Ok(quoted_part(part, ch)?.1),
+        9 => Ok(quoted_part(part, ch)?.1),
+        10 => part.strip_prefix_char(ch).ok_or(NOTHING),
+        11 => Ok(part.take_some::<Digit>().ok_or(NOTHING)?.0),
+        _ => Ok(part.take_some::<Digit>().ok_or(NOTHING)?.1),
     }
 }
 

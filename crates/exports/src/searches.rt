@@ -3,6 +3,7 @@
 use crate::answer::Answer;
 use crate::walks::step_forward;
 use ascii::{AnyFinder, AsciiChar, AsciiStr, Finder, FinderIgnoringCase};
+use ascii_formats::AsciiStrExt;
 use std::alloc::Global;
 
 /// The first and the last position of a needle, and the two sides of both; whether the text contains it, starts with it
@@ -22,10 +23,13 @@ pub fn ask_find(source: AsciiStr, needle: AsciiStr, answer: &mut Answer) {
     answer.put((contains, source.count(needle)));
 }
 
-/// The first and the last position of a character, and the two sides of each.
+/// The first and the last position of a character, and the two sides of each; whether the text starts with it, and the text
+/// after it and after any character.
 pub fn ask_find_character(on: AsciiChar, source: AsciiStr, answer: &mut Answer) {
     answer.put((source.position(on), source.rposition(on)));
     answer.put((source.split_once(on), source.rsplit_once(on)));
+    answer.put((source.starts_with_char(on), source.strip_prefix_char(on)));
+    answer.put(source.split_first());
 }
 
 /// The needle of a finder, its first position in a text, and whether the text contains it; and the lines that contain it by
