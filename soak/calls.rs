@@ -193,6 +193,7 @@ calls! {
     fn ask_notation(form: u8, source: &[u8], script: &[u8]);
     fn ask_unescaped(source: &[u8]);
     fn ask_quoted(quote: u8, escape: u8, source: &[u8]);
+    fn ask_requoted(quote: u8, escape: u8, source: &[u8], piece: &[u8]);
     fn ask_joined(code: u8, source: &[u8], separator: &[u8]);
     fn ask_repeated(times: usize, source: &[u8]);
     fn ask_padded(form: u8, code: u8, width: usize, source: &[u8], piece: &[u8]);

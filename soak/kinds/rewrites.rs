@@ -18,6 +18,7 @@ pub static KINDS: &[Kind] = &[
     }),
     allocating("texts with escapes", unescaped),
     kind("quoted texts", quoted),
+    allocating("texts that are quoted", requoted),
     allocating("joined pieces", |random, asked| {
         let (text, separator) = (random.text(), random.short_text());
         ask_joined(random.code_of(&text), &string(text), &string(separator), asked);
@@ -154,6 +155,40 @@ pub fn quoted(random: &mut Random, asked: &mut Asked) {
 pub fn ask_quoted(quote: u8, escape: u8, text: &[u8], expected: Result<impl Put, Unquoted>, asked: &mut Asked) {
     calls::ask_quoted(asked, quote, escape, text);
     asked.want.put(expected);
+}
+
+pub fn requoted(random: &mut Random, asked: &mut Asked) {
+    let (quote, escape) = (*random.pick(b"\"\'A"), *random.pick(b"\"\\\'"));
+    let piece = match random.below(2) {
+        0 => random.short_text(),
+        _ => random.joined(&[&[quote], &[escape], b"a", &[escape, escape], &[escape, b'b']]),
+    };
+    ask_requoted(quote, escape, &random.text(), &piece, asked);
+}
+
+/// A text with a piece appended in quotes, and what the piece represents between quotes.
+pub fn ask_requoted(quote: u8, escape: u8, text: &[u8], piece: &[u8], asked: &mut Asked) {
+    calls::ask_requoted(asked, quote, escape, text, piece);
+    let want = &mut asked.want;
+    let (mut read, mut codes) = (Vec::new(), piece.iter());
+    while let Some(code) = codes.next() {
+        let next = if *code == escape { codes.next() } else { None };
+        read.push(*next.unwrap_or(code));
+    }
+    want.allocated(Needs::memory_if(!piece.is_empty()), read);
+    let mut longer = text.to_vec();
+    longer.push(quote);
+    for code in piece {
+        if [quote, escape].contains(code) {
+            longer.push(escape);
+        }
+        longer.push(*code);
+    }
+    longer.push(quote);
+    let start = want.bytes.len();
+    want.put((true, longer));
+    want.fails(Needs::memory_if(!text.is_empty()), start, Failed);
+    want.fails_by(Needs::Memory, start, |want| put_unchanged(text, want));
 }
 
 pub fn ask_joined(code: u8, text: &str, separator: &str, asked: &mut Asked) {

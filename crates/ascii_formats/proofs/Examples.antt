@@ -7,6 +7,9 @@ use Rattle.ascii.specs.ByClass.{whole}
 use Rattle.ascii_formats.specs.Decimals.{IsDecimalFault, WritesDecimal, decimal_text}
 use Rattle.ascii_formats.specs.Numbers.{IsFaultIn, WritesNumberIn, signed_up_to}
 use Rattle.ascii_formats.specs.Padding.{padded}
+use Rattle.ascii_formats.specs.Quotes.{quoted_code, quoted_text, unquoted}
+use Rattle.ascii_formats.proofs.QuotesLemmas.{written_unquoted}
+use Rattle.std.specs.List.{flat_map}
 use Rattle.ascii_formats.specs.declared.numbers.NumberError.TheVariants.{NotDigit, TooLarge}
 
 -- the least number of an `i8`, and the position of the digit with which one less leaves the range
@@ -48,3 +51,24 @@ last_point = (
 two_places : decimal_text (record { negative = false; digits = 5; places = 2 }) ≡ codes "0.05"
 unfolding digits
 two_places = refl
+
+-- what a text with a quote and an escape is written as, in quotes; and with each quote doubled
+by_backslash : quoted_text 39 92 (codes "a'\\") ≡ codes "'a\\'\\\\'"
+by_backslash = refl
+
+doubled : quoted_text 39 39 (codes "it's") ≡ codes "'it''s'"
+doubled = refl
+
+-- what texts between quotes represent: the last ends with an escape
+escaped : unquoted 92 (codes "a\\'\\\\b\\n") ≡ codes "a'\\bn"
+escaped = refl
+
+halved : unquoted 39 (codes "it''s") ≡ codes "it's"
+halved = refl
+
+last_escape : unquoted 92 (codes "a\\") ≡ codes "a\\"
+last_escape = refl
+
+-- a text is written in quotes, taken and read back
+there_and_back : unquoted 34 (flat_map (quoted_code 34 34) (codes "a\"b")) ≡ codes "a\"b"
+there_and_back = written_unquoted 34 34 (codes "a\"b")

@@ -1,9 +1,13 @@
 -- Appending a text in parts.
 use Rattle.std.proofs.Common.{◌≡◌, ℕ, zero, suc, ◌+◌, ◌-◌, ◌<◌, ◌≤◌, List, [], ◌∷◌, ◌++◌, length}
-use Rattle.std.proofs.Common.{drop, false, replicate, set, Ok, Err, Result, length-append, arith}
+use Rattle.std.proofs.Common.{drop, take, take-append-drop, false, replicate, set, Ok, Err, Result, length-append, arith}
 use Rattle.std.proofs.Common.{ap, refl, subst, sym, ◌∙◌, ◌/◌, ◌%◌, ◌^◌, ◌≢◌, ◌⊎◌, ⊎_elim, eq-eqb}
 use Rattle.std.proofs.Common.{ne_eqb}
-use Rattle.std.proofs.lemmas.List.{append_assoc, append-nil, drop_all, replicate-append-replicate}
+use Rattle.std.proofs.lemmas.List.{append_assoc, append-nil, drop_all, flat_map_more}
+use Rattle.std.proofs.lemmas.List.{replicate-append-replicate, take_more}
+use Rattle.std.proofs.lemmas.Grind.{flat_map-append}
+use Rattle.std.specs.List.{flat_map}
+use Rattle.std.specs.Prelude.{slice_index}
 use Rattle.std.proofs.Math.Nat.{pow-suc}
 use Rattle.std.proofs.lemmas.Bool.Decides.{nat_tests}
 use Rattle.std.specs.Fmt.{digit_glyph, digits, digits_onto}
@@ -49,6 +53,29 @@ one_more {sure = sure} n code old mid new result before grows =
     subst (λ codes. AppendsInParts sure codes old new result) (replicate-append-replicate n 1 code)
     (two_parts (replicate n code) (code ∷ []) old mid new tt result before
     (part_at_once (code ∷ []) mid new result grows))
+
+-- what is appended for the codes of a text, and then for one more
+pub text_more : {E : Type 0} {sure : ℕ} (f : ℕ → List ℕ) (text : List ℕ) (at : ℕ)
+    (old mid new : StringState) (result : Result (Unit {0}) E) → at < length text
+    → AppendsInParts {E = E} sure (flat_map f (take at text)) old mid (Ok tt)
+    → AppendsInParts sure (f (slice_index text at)) mid new result
+    → AppendsInParts sure (flat_map f (take (at + 1) text)) old new result
+text_more {sure = sure} f text at old mid new result inside before part =
+    let more : flat_map f (take at text) ++ f (slice_index text at) ≡ flat_map f (take (at + 1) text)
+    = rw (take_more text at 0 inside) (flat_map_more f [] (take at text) (slice_index text at)) in
+    subst (λ codes. AppendsInParts sure codes old new result) more
+    (two_parts (flat_map f (take at text)) (f (slice_index text at)) old mid new tt result before part)
+
+-- some of what is appended for the codes of a text
+pub some_text : {E F : Type 0} {sure : ℕ} (f : ℕ → List ℕ) (text : List ℕ) (at : ℕ)
+    (old new : StringState) (e : F) (r : E)
+    → AppendsInParts sure (flat_map f (take at text)) old new (Err e)
+    → AppendsInParts sure (flat_map f text) old new (Err r)
+some_text {sure = sure} f text at old new e r first =
+    let whole = sym (flat_map-append f (take at text) (drop at text))
+    ∙ ap (flat_map f) (take-append-drop at text) in
+    subst (λ codes. AppendsInParts sure codes old new (Err r)) whole
+    (first_part (flat_map f (take at text)) (flat_map f (drop at text)) old new e r first)
 
 -- some of as many of a code
 pub some_of : {E F : Type 0} {sure : ℕ} (n count code : ℕ) (old new : StringState) (e : F) (f : E) → n ≤ count

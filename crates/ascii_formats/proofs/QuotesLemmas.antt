@@ -1,20 +1,21 @@
 -- Where a quoted text is closed: past each code inside, and at the quote.
 use Rattle.std.proofs.Common.{◌≡◌, ◌≢◌, ℕ, zero, suc, ◌+◌, ◌≤◌, List, [], ◌∷◌, ◌++◌, length, drop}
 use Rattle.std.proofs.Common.{take, refl, sym, ap, ap₂, subst, ◌∙◌, arith, inl, inr, append_assoc}
-use Rattle.std.proofs.Common.{drop-cons, drop-drop, length-append}
+use Rattle.std.proofs.Common.{◌⊎◌, drop-cons, drop-drop, eq-eqb, length-append, ne_eqb}
+use Rattle.std.proofs.lemmas.Bool.{cases_eq}
 use Rattle.std.proofs.Math.Seq.{take-append_seam}
 use Rattle.std.proofs.lemmas.List.{drop_all}
 use Rattle.std.proofs.lemmas.Option.{get_or_from_slice_get, slice_get_within}
 use Rattle.std.proofs.lemmas.List.Elements.{All-cons, All-head, All-nil, All-tail}
-use Rattle.std.specs.List.{All, concat}
+use Rattle.std.specs.List.{All, concat, flat_map}
 use Rattle.std.specs.Prelude.{◌↔◌, Err, IfSome, IsOkAnd, MatchResult, Ok, Result, Some, slice_get}
 use Rattle.ascii_formats.specs.Quotes.{ClosesBefore, IsEscapeAt, IsQuoteFault, IsQuotedCode}
-use Rattle.ascii_formats.specs.Quotes.{StartsQuoted}
+use Rattle.ascii_formats.specs.Quotes.{Quotable, StartsQuoted, quoted_code, quoted_text, unquoted}
 use Rattle.ascii_formats.specs.declared.quotes.QuoteError.{QuoteError}
 use Rattle.ascii_formats.specs.declared.quotes.QuoteError.TheVariants.{NoQuote, NotClosed}
 
 -- what comes after the quote that closes does not make it an escape
-abbrev EndsAt : ℕ → ℕ → List ℕ → Type 0
+abbrev pub EndsAt : ℕ → ℕ → List ℕ → Type 0
 EndsAt q e rest = e ≡ q → IfSome (slice_get rest 0) (λ next. next ≢ q)
 
 -- an empty text does not close
@@ -222,3 +223,74 @@ quoted_taken inside_of rest_of q e text a x (Ok t) starts taken =
     quoted_once q e text (inside_of t) a (rest_of t) x taken starts
 quoted_taken inside_of rest_of q e text a x (Err NoQuote) starts fault = grind arith
 quoted_taken inside_of rest_of q e text a x (Err (NotClosed p)) starts fault = grind arith
+
+-- ---- a text as it is written between quotes
+
+-- a code is written alone, or after an escape
+code_written : (q e n : ℕ) → ((quoted_code q e n ≡ n ∷ []) × (n ≢ q) × (n ≢ e))
+    ⊎ ((quoted_code q e n ≡ e ∷ n ∷ []) × (e ≡ q → n ≡ q))
+code_written q e n = elim (cases_eq n q) [
+  | inl quote ↦ inr (rw (eq-eqb n q quote) refl, λ same. quote)
+  | inr other ↦ elim (cases_eq n e) [
+    | inl escape ↦ inr (rw (eq-eqb n e escape) (grind arith), λ same. escape ∙ same)
+    | inr plain ↦ inl (rw (ne_eqb n q other, ne_eqb n e plain) refl, other, plain)
+  ]
+]
+
+-- it is written as a piece inside of quotes
+is_piece : (q e n : ℕ) → IsQuotedCode q e (quoted_code q e n)
+is_piece q e n = elim (code_written q e n) [
+  | inl h ↦ inl (n, h.0, h.1, h.2)
+  | inr h ↦ inr (n, h.0, h.1)
+]
+
+-- a text is written as quotable pieces
+pub written_quotable : (q e : ℕ) (text : List ℕ) → Quotable q e (flat_map (quoted_code q e) text)
+written_quotable q e [] = ([], All-nil (IsQuotedCode q e), refl)
+written_quotable q e (n ∷ text) =
+    let others = written_quotable q e text in (
+      quoted_code q e n ∷ others.0,
+      All-cons (IsQuotedCode q e) (quoted_code q e n) others.0 (is_piece q e n) others.1,
+      ap (λ l. quoted_code q e n ++ l) others.2,
+    )
+
+-- it is not shorter
+pub longer_written : (q e : ℕ) (text : List ℕ)
+    → length text ≤ length (flat_map (quoted_code q e) text)
+longer_written q e [] = omega arith
+longer_written q e (n ∷ text) =
+    let others = longer_written q e text in
+    let whole = length-append (quoted_code q e n) (flat_map (quoted_code q e) text) in
+    elim (code_written q e n) [
+      | inl h ↦ omega (arith, others, whole, ap length h.0)
+      | inr h ↦ omega (arith, others, whole, ap length h.0)
+    ]
+
+-- what a plain code, and an escaped one, represent before a text
+unquoted_plain : (e n : ℕ) (rest : List ℕ) → n ≢ e → unquoted e (n ∷ rest) ≡ n ∷ unquoted e rest
+unquoted_plain e n [] plain = refl
+unquoted_plain e n (m ∷ rest) plain = rw (ne_eqb n e plain) refl
+
+unquoted_escaped : (e n : ℕ) (rest : List ℕ) → unquoted e (e ∷ n ∷ rest) ≡ n ∷ unquoted e rest
+unquoted_escaped e n rest = rw (eq-eqb e e refl) refl
+
+-- what is written represents the text
+pub written_unquoted : (q e : ℕ) (text : List ℕ)
+    → unquoted e (flat_map (quoted_code q e) text) ≡ text
+written_unquoted q e [] = refl
+written_unquoted q e (n ∷ text) =
+    let rest = flat_map (quoted_code q e) text in
+    let others = ap (λ l. n ∷ l) (written_unquoted q e text) in
+    elim (code_written q e n) [
+      | inl h ↦ rw h.0 (unquoted_plain e n rest h.2 ∙ others)
+      | inr h ↦ rw h.0 (unquoted_escaped e n rest ∙ others)
+    ]
+
+-- a text in quotes is taken as it is written, unless a quote follows that would be a doubled one
+pub written_starts : (q e : ℕ) (text rest : List ℕ) → EndsAt q e rest
+    → StartsQuoted q e (quoted_text q e text ++ rest) (flat_map (quoted_code q e) text) rest
+written_starts q e text rest ends = record {
+  joined = ap (λ l. q ∷ l) (sym (append_assoc (flat_map (quoted_code q e) text) (q ∷ []) rest));
+  quotable = written_quotable q e text;
+  ends = ends;
+}

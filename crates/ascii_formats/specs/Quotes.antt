@@ -1,8 +1,8 @@
 -- Quoted texts: `quote`, the text inside, and `quote`. A code after an `escape` inside does not end
 -- the text. If `escape` is `quote` itself, each quote inside is doubled, as in CSV.
 use Rattle.std.specs.Prelude.{◌≡◌, ◌≢◌, ℕ, ◌+◌, ◌⊎◌, List, [], ◌∷◌, ◌++◌, IfSome, Some, codes}
-use Rattle.std.specs.Prelude.{decimal, length, slice_get}
-use Rattle.std.specs.List.{All, concat}
+use Rattle.std.specs.Prelude.{if◌then◌else◌, ◌==◌, ◌||◌, decimal, length, slice_get}
+use Rattle.std.specs.List.{All, concat, flat_map}
 use Rattle.ascii_formats.specs.declared.quotes.QuoteError.{QuoteError}
 use Rattle.ascii_formats.specs.declared.quotes.QuoteError.TheVariants.{NoQuote, NotClosed}
 
@@ -32,6 +32,23 @@ IsQuoteFault quote escape text NoQuote = (rest : List ℕ) → text ≢ quote �
 IsQuoteFault quote escape text (NotClosed p) = (p ≡ length text)
     × ((rest : List ℕ) × (text ≡ quote ∷ rest))
     × ((inside rest : List ℕ) → ¬ (StartsQuoted quote escape text inside rest))
+
+-- `code` as it is written between quotes: after `escape` if it is `quote` or `escape`
+abbrev pub quoted_code : ℕ → ℕ → ℕ → List ℕ
+quoted_code quote escape code =
+    if code == quote || code == escape then escape ∷ code ∷ [] else code ∷ []
+
+-- `text` in quotes, with `escape` before each `quote` and each `escape` in it
+abbrev pub quoted_text : ℕ → ℕ → List ℕ → List ℕ
+quoted_text quote escape text = quote ∷ (flat_map (quoted_code quote escape) text ++ quote ∷ [])
+
+-- what a text between quotes represents: an `escape` and the code after it represent that code; any
+-- other code represents itself, and so does an `escape` at the end
+abbrev pub unquoted : ℕ → List ℕ → List ℕ
+unquoted escape [] = []
+unquoted escape (code ∷ []) = code ∷ []
+unquoted escape (code ∷ next ∷ rest) =
+    if code == escape then next ∷ unquoted escape rest else code ∷ unquoted escape (next ∷ rest)
 
 -- the output of an error
 abbrev pub quote_error_text : QuoteError → List ℕ

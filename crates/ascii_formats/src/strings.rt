@@ -1,4 +1,4 @@
-//! The calls of a string that append numbers and padded texts.
+//! The calls of a string that append numbers, padded texts and quoted texts.
 
 ghost use Rattle.std.specs.Prelude.{ℕ, ◌++◌, false};
 ghost use Rattle.std.specs.Fmt.{digits};
@@ -7,13 +7,15 @@ ghost use Rattle.ascii.specs.Code.{code_of};
 ghost use Rattle.ascii.specs.StringState.{GrowsTo, StringState};
 ghost use Rattle.ascii.specs.View.{text_of};
 ghost use Rattle.ascii_formats.specs.Padding.{padded};
+ghost use Rattle.ascii_formats.specs.Quotes.{quoted_text};
 
 use crate::padding::{push_between, write_hex};
+use crate::quotes::push_between_quotes;
 use ascii::{AsciiChar, AsciiStr, Buffer, Text, bytes};
 use itoa::{Buffer as Digits, Integer};
 use std::fmt::Alignment;
 
-/// The calls of a string that append numbers and padded texts.
+/// The calls of a string that append numbers, padded texts and quoted texts.
 pub trait AsciiStringExt {
     /// The error of a call for which there is no room: that of the string's buffer.
     type Refusal;
@@ -73,6 +75,28 @@ pub trait AsciiStringExt {
         ensures { GrowsTo sure
             ((state self.old).text ++ padded align width (code_of fill) (text_of view.entry))
             (state self.old) (state self.new) result };
+
+    /// Appends a view in quotes: `quote`, the view with `escape` before each `quote` and each `escape`
+    /// in it, and `quote`. Fails only if the string has to grow and the allocation fails; the text is
+    /// then unchanged.
+    ///
+    /// If `escape` is `quote`, each quote in the view is doubled, as in CSV. `take_quoted` takes the text
+    /// again, and `unquote` reads it. Asks once for the room of the view and its quotes.
+    ///
+    ///     let mut text = AsciiString::new(alloc);
+    ///     text.push_quoted(AsciiStr::literal("a'\\"), AsciiChar::Apostrophe, AsciiChar::BackSlash) // Ok(())
+    ///     text // "'a\\'\\\\'"
+    ///     text.push_quoted(AsciiStr::literal("it's"), AsciiChar::Apostrophe, AsciiChar::Apostrophe) // Ok(())
+    ///     text // "'a\\'\\\\''it''s'"
+    fn push_quoted(
+        &mut self,
+        view: AsciiStr<'_>,
+        quote: AsciiChar,
+        escape: AsciiChar,
+    ) -> Result<(), Self::Refusal>
+        ensures { GrowsTo sure ((state self.old).text
+            ++ quoted_text (code_of quote) (code_of escape) (text_of view.entry))
+            (state self.old) (state self.new) result };
 }
 
 impl<B: Buffer> AsciiStringExt for Text<B> {
@@ -110,5 +134,16 @@ impl<B: Buffer> AsciiStringExt for Text<B> {
         let room = padding.saturating_add(view.len());
         self.reserve(room.min(usize::MAX - self.len()))?;
         push_between(self, fill, before, view, padding - before)
+    }
+
+    fn push_quoted(
+        &mut self,
+        view: AsciiStr<'_>,
+        quote: AsciiChar,
+        escape: AsciiChar,
+    ) -> Result<(), B::Refusal> {
+        let room = view.len().saturating_add(2);
+        self.reserve(room.min(usize::MAX - self.len()))?;
+        push_between_quotes(self, view, quote, escape)
     }
 }

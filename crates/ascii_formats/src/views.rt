@@ -1,6 +1,6 @@
 //! The calls of a view that read formats.
 
-ghost use Rattle.std.specs.Prelude.{◌≡◌, ℕ, ◌≤◌, ◌↔◌, List, [], ◌∷◌, IsTrue, MatchOption};
+ghost use Rattle.std.specs.Prelude.{◌≡◌, ℕ, ◌≤◌, ◌↔◌, List, [], ◌∷◌, IfOk, IsOk, IsTrue, MatchOption};
 ghost use Rattle.std.specs.Prelude.{MatchResult, length};
 ghost use Rattle.ascii.specs.Code.{code_of};
 ghost use Rattle.ascii.specs.Search.{IsPrefix, StartsWith};
@@ -9,16 +9,16 @@ ghost use Rattle.ascii_formats.specs.Decimals.{IsDecimalFault, WritesDecimal};
 ghost use Rattle.ascii_formats.specs.Numbers.{IsFaultIn, IsStartFault, StartsWithNumber};
 ghost use Rattle.ascii_formats.specs.Numbers.{WritesNumberIn};
 ghost use Rattle.ascii_formats.specs.Places.{place_at};
-ghost use Rattle.ascii_formats.specs.Quotes.{IsQuoteFault, StartsQuoted};
+ghost use Rattle.ascii_formats.specs.Quotes.{IsQuoteFault, StartsQuoted, unquoted};
 ghost use Rattle.ascii_formats.specs.Unescape.{IsUnescapeFault, Unescapes};
 
 use crate::decimals::{Decimal, continue_number, split_sign, without_zeros};
 use crate::numbers::{Number, NumberError, begins_with_sign, leading_number};
 use crate::places::{Fault, Place};
-use crate::quotes::{QuoteError, closing_quote};
+use crate::quotes::{QuoteError, closing_quote, unquote_into};
 use crate::unescape::{UnescapeError, unescape_into};
 use ascii::{AsciiChar, AsciiRange, AsciiStr, AsciiString};
-use std::alloc::Allocator;
+use std::alloc::{AllocError, Allocator};
 
 /// The calls of a view that read its first character, numbers, quotes and escapes, and find a line and a
 /// column.
@@ -143,6 +143,28 @@ pub trait AsciiStrExt: Sized {
             (λ taken. StartsQuoted (code_of quote) (code_of escape) text
             (codes taken.0) (codes taken.1))
             (IsQuoteFault (code_of quote) (code_of escape) text) };
+
+    /// Returns the text that the view represents if it comes between quotes: an `escape` and the
+    /// character after it represent that character, and any other character represents itself. Fails
+    /// only if the allocation fails.
+    ///
+    /// An `escape` at the end represents itself; `take_quoted` returns no such text. What `push_quoted`
+    /// writes between its quotes represents the text that was written. For std's escapes, as `\n`, use
+    /// `unescape`.
+    ///
+    /// Allocates once, for the length of the view. Never fails for the empty view.
+    ///
+    ///     AsciiStr::literal("a\\'b\\\\").unquote(alloc, AsciiChar::BackSlash) // Ok("a'b\\")
+    ///     AsciiStr::literal("a''b").unquote(alloc, AsciiChar::Apostrophe) // Ok("a'b")
+    ///     AsciiStr::literal("\\n\\").unquote(alloc, AsciiChar::BackSlash) // Ok("n\\")
+    fn unquote<A: Allocator>(
+        self,
+        alloc: A,
+        escape: AsciiChar,
+    ) -> Result<AsciiString<A>, AllocError>
+        ensures text { IfOk result (λ string.
+            string.text ≡ unquoted (code_of escape) (codes self)) }
+        ensures empty { codes self ≡ [] → IsOk result };
 
     /// Returns the text that the view represents, in which characters are escaped as by std's
     /// `escape_ascii`, or an error: with the position of the first backslash that does not begin an
@@ -279,6 +301,16 @@ impl<'a> AsciiStrExt for AsciiStr<'a> {
             tail.slice(AsciiRange::To(end)),
             tail.slice(AsciiRange::From(end + 1)),
         ))
+    }
+
+    fn unquote<A: Allocator>(
+        self,
+        alloc: A,
+        escape: AsciiChar,
+    ) -> Result<AsciiString<A>, AllocError> {
+        let mut string = AsciiString::with_capacity(alloc, self.len())?;
+        unquote_into(self, escape, &mut string);
+        Ok(string)
     }
 
     fn unescape<A: Allocator>(self, alloc: A) -> Result<AsciiString<A>, UnescapeError> {

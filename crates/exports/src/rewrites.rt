@@ -54,6 +54,24 @@ pub fn ask_quoted(quote: AsciiChar, escape: AsciiChar, source: AsciiStr, answer:
     answer.put(source.take_quoted(quote, escape));
 }
 
+/// A text with another one appended in quotes, and what the other one represents between quotes.
+pub fn ask_requoted(
+    alloc: Global,
+    quote: AsciiChar,
+    escape: AsciiChar,
+    source: AsciiStr,
+    piece: AsciiStr,
+    answer: &mut Answer,
+) {
+    answer.put_result(piece.unquote(alloc, escape));
+    match source.to_ascii_string(alloc) {
+        Ok(mut string) => {
+            answer.put((string.push_quoted(piece, quote, escape).is_ok(), string));
+        }
+        Err(error) => answer.put(error),
+    }
+}
+
 /// The position of a quote that is not closed.
 impl Put for QuoteError {
     fn put(self, answer: &mut Answer) {
