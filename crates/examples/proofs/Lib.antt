@@ -1,3 +1,4 @@
+pub mod LogLemmas
 pub mod PagerLemmas
 pub mod TallyLemmas
 pub mod TokensLemmas

@@ -1,6 +1,7 @@
 -- Messages of a log in the form of RFC 5424.
-use Rattle.std.specs.Prelude.{ℕ, ◌≡◌, ◌≢◌, ◌≤◌, ◌⊎◌, ◌^◌, ◌-◌, ◌++◌, ◌∷◌, [], List, ⊤}
-use Rattle.std.specs.Prelude.{codes, length}
+use Rattle.std.specs.Prelude.{ℕ, ◌≡◌, ◌≢◌, ◌<◌, ◌≤◌, ◌⊎◌, ◌^◌, ◌-◌, ◌++◌, ◌∷◌, [], List, ⊤}
+use Rattle.std.specs.Prelude.{MatchResult, codes, length}
+use Rattle.std.specs.declared.result.Result.{Result}
 use Rattle.std.specs.Int.{IsInRange}
 use Rattle.std.specs.List.{All, flat_map}
 use Rattle.ascii.specs.Class.{IsGraphic}
@@ -19,7 +20,7 @@ use Rattle.examples.specs.declared.syslog.Param.{Param}
 
 -- a code that a name may contain: a visible one other than `"`, `=` and `]`
 abbrev pub IsNameCode : ℕ → Type 0
-IsNameCode code = (code ≡ 33) ⊎ IsInRange 35 60 code ⊎ IsInRange 62 92 code ⊎ IsInRange 94 126 code
+IsNameCode code = IsInRange 33 33 code ⊎ IsInRange 35 60 code ⊎ IsInRange 62 92 code ⊎ IsInRange 94 126 code
 
 -- `number` is up to three digits that write a number of at most `most`
 pub record IsNumber (most : ℕ) (number : Number) : Type 0 where
@@ -49,12 +50,12 @@ AreElements elements = All IsElement elements
 
 -- what a parameter is written as
 abbrev pub param_text : Param → List ℕ
-param_text param = part_text param.name ++ 61 ∷ (34 ∷ (part_text param.value ++ 34 ∷ []))
+param_text param = 32 ∷ (part_text param.name ++ 61 ∷ (34 ∷ (part_text param.value ++ 34 ∷ [])))
 
 -- what an element is written as
 abbrev pub element_text : Element → List ℕ
 element_text element = 91 ∷ (part_text element.id
-    ++ (flat_map (λ param. 32 ∷ param_text param) element.params.items ++ 93 ∷ []))
+    ++ (flat_map param_text element.params.items ++ 93 ∷ []))
 
 -- what structured data is written as
 abbrev pub data_text : List Element → List ℕ
@@ -85,9 +86,16 @@ IsErrorIn line Memory = ⊤
 
 -- ---- cited by private functions only
 
--- `part` is `taken`, followed by `rest`
+-- `part` is `taken`, which is not empty, followed by `rest`
 pub record IsFollowed (part : Part) (taken : List ℕ) (rest : Part) : Type 0 where
   pub joined : taken ++ part_text rest ≡ part_text part
   pub whole : rest.whole ≡ part.whole
-  pub start : part.start ≤ rest.start
+  pub start : part.start < rest.start
   pub end : rest.end ≡ part.end
+
+-- `Ok`: something of which `Is` is true, written at the start of `part`, and the rest of `part`. `Err`:
+-- the part at fault is a part of the same text
+abbrev pub Takes : {T : Type 0} → (T → Type 0) → (T → List ℕ) → Part → Result (T × Part) LogError
+    → Type 0
+Takes Is written part result = MatchResult result
+    (λ taken. Is taken.0 × IsFollowed part (written taken.0) taken.1) (IsErrorIn part.whole)

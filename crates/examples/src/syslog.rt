@@ -1,16 +1,18 @@
 //! Prints what each line of a log in the form of RFC 5424 says, or the column at which it is at fault.
 #![tactic(auto)]
 
-ghost use Rattle.std.specs.Prelude.{◌<◌, IfOk, MatchResult};
+ghost use Rattle.std.specs.Prelude.{◌∷◌, [], MatchResult};
 ghost use Rattle.std.proofs.Common.{rules};
+ghost use Rattle.ascii.specs.Code.{code_of};
 ghost use Rattle.ascii.specs.View.{text_of};
 ghost use Rattle.ascii_formats.specs.Parts.{part_text};
 ghost use Rattle.examples.specs.Log.{AreElements, IsElement, IsErrorIn, IsField, IsFollowed};
-ghost use Rattle.examples.specs.Log.{IsMessage, IsNumber, IsParam};
-ghost use Rattle.examples.specs.Log.{data_text, element_text, param_text};
+ghost use Rattle.examples.specs.Log.{IsMessage, IsNumber, IsParam, Takes, data_text, element_text};
+ghost use Rattle.examples.specs.Log.{param_text};
 
 use ascii::classes::{ByRanges, Digit, Graphic, Ranges, Searched};
 use ascii::{AsciiChar, AsciiStr, text};
+use ascii_formats::AsciiStrExt;
 use ascii_formats::parts::Part;
 use std::alloc::Global;
 use std::io::{self, Read};
@@ -71,6 +73,9 @@ pub enum LogError<'a> {
     Memory,
 }
 
+/// What is taken from the start of a part, and the rest of the part.
+pub type Taken<'a, T> = Result<(T, Part<'a>), LogError<'a>>;
+
 pub struct NameRanges;
 
 const NAME: [(u8, u8); 4] = [(33, 33), (35, 60), (62, 92), (94, 126)];
@@ -97,15 +102,15 @@ pub type Name = ByRanges<NameRanges>;
 pub fn read_message<'a>(alloc: Global, line: AsciiStr<'a>) -> Result<Message<'a>, LogError<'a>>
     ensures { MatchResult result (IsMessage (text_of line.entry)) (IsErrorIn line.entry) }
 {
-    let (priority, rest) = take_digits(take_text(Part::of(line), AsciiStr::literal("<"))?, 191)?;
-    let (version, rest) = take_digits(take_text(rest, AsciiStr::literal(">"))?, 999)?;
-    let (time, rest) = take_field::<Graphic>(take_text(rest, AsciiStr::literal(" "))?, 32)?;
-    let (host, rest) = take_field::<Graphic>(take_text(rest, AsciiStr::literal(" "))?, 255)?;
-    let (app, rest) = take_field::<Graphic>(take_text(rest, AsciiStr::literal(" "))?, 48)?;
-    let (process, rest) = take_field::<Graphic>(take_text(rest, AsciiStr::literal(" "))?, 128)?;
-    let (id, rest) = take_field::<Graphic>(take_text(rest, AsciiStr::literal(" "))?, 32)?;
-    let (elements, text) = take_data(alloc, take_text(rest, AsciiStr::literal(" "))?)?;
-    if !text.is_empty() && !text.text().starts_with(AsciiStr::literal(" ")) {
+    let (priority, rest) = take_number(Part::of(line), AsciiChar::LessThan, 191)?;
+    let (version, rest) = take_number(rest, AsciiChar::GreaterThan, 999)?;
+    let (time, rest) = take_field::<Graphic>(rest, AsciiChar::Space, 32)?;
+    let (host, rest) = take_field::<Graphic>(rest, AsciiChar::Space, 255)?;
+    let (app, rest) = take_field::<Graphic>(rest, AsciiChar::Space, 48)?;
+    let (process, rest) = take_field::<Graphic>(rest, AsciiChar::Space, 128)?;
+    let (id, rest) = take_field::<Graphic>(rest, AsciiChar::Space, 32)?;
+    let (elements, text) = take_data(alloc, take_char(rest, AsciiChar::Space)?)?;
+    if !text.is_empty() && !text.text().starts_with_char(AsciiChar::Space) {
         return Err(LogError::At(text, What::Character));
     }
     Ok(Message {
@@ -121,100 +126,83 @@ pub fn read_message<'a>(alloc: Global, line: AsciiStr<'a>) -> Result<Message<'a>
     })
 }
 
-/// Takes a fixed text.
-fn take_text<'a>(rest: Part<'a>, fixed: AsciiStr<'_>) -> Result<Part<'a>, LogError<'a>>
-    ensures { MatchResult result (IsFollowed rest.entry (text_of fixed.entry))
+/// Takes a character.
+fn take_char<'a>(rest: Part<'a>, ch: AsciiChar) -> Result<Part<'a>, LogError<'a>>
+    ensures { MatchResult result (IsFollowed rest.entry (code_of ch ∷ []))
         (IsErrorIn rest.entry.whole) }
 {
-    match rest.strip_prefix(fixed) {
-        Some(after) => Ok(after),
-        None => Err(LogError::At(rest, What::Character)),
-    }
+    rest.strip_prefix_char(ch)
+        .ok_or(LogError::At(rest, What::Character))
 }
 
-/// Takes up to three digits that write a number up to `most`.
-fn take_digits<'a>(rest: Part<'a>, most: u16) -> Result<(Number<'a>, Part<'a>), LogError<'a>>
-    ensures { MatchResult result (λ taken. IsNumber most taken.0
-        × IsFollowed rest.entry (part_text taken.0.digits) taken.1) (IsErrorIn rest.entry.whole) }
+/// Takes a character, and after it up to three digits that write a number up to `most`.
+fn take_number<'a>(rest: Part<'a>, mark: AsciiChar, most: u16) -> Taken<'a, Number<'a>>
+    ensures { Takes (IsNumber most) (λ number. code_of mark ∷ part_text number.digits)
+        rest.entry result }
 {
-    let (digits, after) = rest.span::<Digit>();
+    let start = take_char(rest, mark)?;
+    let (digits, after) = start.span::<Digit>();
     match digits.to_number::<u16>() {
         Ok(value) if digits.len() <= 3 && value <= most => Ok((Number { digits, value }, after)),
-        _ => Err(LogError::At(rest, What::Number)),
+        _ => Err(LogError::At(start, What::Number)),
     }
 }
 
-/// Takes up to `most` characters of a class, and one at least.
-fn take_field<'a, C: Searched>(
-    rest: Part<'a>,
-    most: usize,
-) -> Result<(Part<'a>, Part<'a>), LogError<'a>>
-    ensures field { MatchResult result (λ taken. IsField C.is most taken.0
-        × IsFollowed rest.entry (part_text taken.0) taken.1) (IsErrorIn rest.entry.whole) }
-    ensures shorter { IfOk result (λ taken. rest.entry.start < taken.1.start) }
+/// Takes a character, and after it up to `most` characters of a class, and one at least.
+fn take_field<'a, C: Searched>(rest: Part<'a>, mark: AsciiChar, most: usize) -> Taken<'a, Part<'a>>
+    ensures { Takes (IsField C.is most) (λ field. code_of mark ∷ part_text field)
+        rest.entry result }
 {
-    let (field, after) = rest.span::<C>();
-    if field.is_empty() || field.len() > most {
-        return Err(LogError::At(rest, What::Field));
+    let start = take_char(rest, mark)?;
+    match start.take_some::<C>() {
+        Some((field, after)) if field.len() <= most => Ok((field, after)),
+        _ => Err(LogError::At(start, What::Field)),
     }
-    Ok((field, after))
 }
 
 /// Takes the structured data: `-`, or elements with nothing between.
-fn take_data<'a>(
-    alloc: Global,
-    start: Part<'a>,
-) -> Result<(Vec<Element<'a>>, Part<'a>), LogError<'a>>
-    ensures { MatchResult result (λ taken. AreElements taken.0.items
-        × IsFollowed start.entry (data_text taken.0.items) taken.1) (IsErrorIn start.entry.whole) }
+fn take_data<'a>(alloc: Global, start: Part<'a>) -> Taken<'a, Vec<Element<'a>>>
+    ensures { Takes (λ elements. AreElements elements.items) (λ elements. data_text elements.items)
+        start.entry result }
 {
     let mut elements = Vec::new(alloc);
-    if let Some(rest) = start.strip_prefix(AsciiStr::literal("-")) {
+    if let Some(rest) = start.strip_prefix_char(AsciiChar::Minus) {
         return Ok((elements, rest));
     }
     let (first, mut rest) = take_element(alloc, start)?;
-    if elements.push(first).is_err() {
-        return Err(LogError::Memory);
-    }
-    'elements: while rest.text().starts_with(AsciiStr::literal("[")) {
+    elements.push(first).map_err(|_| LogError::Memory)?;
+    'elements: while rest.text().starts_with_char(AsciiChar::BracketOpen) {
         let (element, after) = take_element(alloc, rest)?;
-        if elements.push(element).is_err() {
-            return Err(LogError::Memory);
-        }
+        elements.push(element).map_err(|_| LogError::Memory)?;
         rest = after;
     }
     Ok((elements, rest))
 }
 
 /// Takes an element, `[id name="value" ..]`.
-fn take_element<'a>(alloc: Global, start: Part<'a>) -> Result<(Element<'a>, Part<'a>), LogError<'a>>
-    ensures element { MatchResult result (λ taken. IsElement taken.0
-        × IsFollowed start.entry (element_text taken.0) taken.1) (IsErrorIn start.entry.whole) }
-    ensures shorter { IfOk result (λ taken. start.entry.start < taken.1.start) }
+fn take_element<'a>(alloc: Global, start: Part<'a>) -> Taken<'a, Element<'a>>
+    ensures { Takes IsElement element_text start.entry result }
 {
-    let (id, mut rest) = take_field::<Name>(take_text(start, AsciiStr::literal("["))?, 32)?;
+    let (id, mut rest) = take_field::<Name>(start, AsciiChar::BracketOpen, 32)?;
     let mut params = Vec::new(alloc);
-    'params: while let Some(next) = rest.strip_prefix(AsciiStr::literal(" ")) {
-        let (param, after) = take_param(next)?;
-        if params.push(param).is_err() {
-            return Err(LogError::Memory);
-        }
+    'params: while rest.text().starts_with_char(AsciiChar::Space) {
+        let (param, after) = take_param(rest)?;
+        params.push(param).map_err(|_| LogError::Memory)?;
         rest = after;
     }
-    let rest = take_text(rest, AsciiStr::literal("]"))?;
+    let rest = take_char(rest, AsciiChar::BracketClose)?;
     Ok((Element { id, params }, rest))
 }
 
-/// Takes a parameter, `name="value"`.
-fn take_param<'a>(start: Part<'a>) -> Result<(Param<'a>, Part<'a>), LogError<'a>>
-    ensures { MatchResult result (λ taken. IsParam taken.0
-        × IsFollowed start.entry (param_text taken.0) taken.1) (IsErrorIn start.entry.whole) }
+/// Takes a parameter, ` name="value"`.
+fn take_param<'a>(start: Part<'a>) -> Taken<'a, Param<'a>>
+    ensures { Takes IsParam param_text start.entry result }
 {
-    let (name, rest) = take_field::<Name>(start, 32)?;
-    let rest = take_text(rest, AsciiStr::literal("="))?;
-    match rest.quoted(AsciiChar::Quotation, AsciiChar::BackSlash) {
+    let (name, rest) = take_field::<Name>(start, AsciiChar::Space, 32)?;
+    let quoted = take_char(rest, AsciiChar::Equal)?;
+    match quoted.quoted(AsciiChar::Quotation, AsciiChar::BackSlash) {
         Ok((value, rest)) => Ok((Param { name, value }, rest)),
-        Err(_) => Err(LogError::At(rest, What::Quote)),
+        Err(_) => Err(LogError::At(quoted, What::Quote)),
     }
 }
 
@@ -229,7 +217,11 @@ fn show(rt: &HostRuntime, message: &Message<'_>) -> io::Result<()> {
     for element in &message.elements {
         println!(rt; "- {}", element.id.text())?;
         for param in &element.params {
-            println!(rt; "  {}: {}", param.name.text(), param.value.text())?;
+            let value = param
+                .value
+                .text()
+                .unquote(rt.alloc(), AsciiChar::BackSlash)?;
+            println!(rt; "  {}: {value}", param.name.text())?;
         }
     }
     Ok(())

@@ -3,16 +3,15 @@
 #![tactic(auto)]
 
 ghost use Rattle.std.specs.List.{flat_map};
-ghost use Rattle.std.specs.Prelude.{◌≡◌, ◌≢◌, ◌<◌, [], All, IfErr, IfOk, IfSome};
-ghost use Rattle.std.specs.Prelude.{MatchResult, length};
+ghost use Rattle.std.specs.Prelude.{◌≡◌, ◌≢◌, [], All, IfErr, IfOk, MatchResult, length};
 ghost use Rattle.std.proofs.Common.{rules};
-ghost use Rattle.ascii.specs.Trim.{IsSpan};
 ghost use Rattle.ascii.specs.View.{text_of};
-ghost use Rattle.ascii_formats.specs.Parts.{AreSidesOf, part_text};
+ghost use Rattle.ascii_formats.specs.Parts.{part_text};
 ghost use Rattle.examples.specs.Tokens.{AreLaid, IsErrorOf, IsTaken, IsTokenOf, token_text};
 
-use ascii::classes::{ByRanges, Digit, Punctuation, Ranges, Searched, Whitespace};
+use ascii::classes::{ByRanges, Digit, Punctuation, Ranges, Whitespace};
 use ascii::{AsciiChar, AsciiStr, text};
+use ascii_formats::AsciiStrExt;
 use ascii_formats::parts::Part;
 use std::alloc::Global;
 use std::io::{self, Read};
@@ -125,19 +124,19 @@ fn take_token<'a>(text: Part<'a>) -> Result<(Token<'a>, Part<'a>), TokenError<'a
     requires { part_text text ≢ [] }
     ensures { MatchResult result (IsTaken text.entry) (IsErrorOf text.entry.whole) }
 {
-    if let Some((part, rest)) = take_some::<Whitespace>(text) {
+    if let Some((part, rest)) = text.take_some::<Whitespace>() {
         let kind = Kind::Space;
         return Ok((Token { kind, part }, rest));
     }
-    if let Some((part, rest)) = take_some::<Digit>(text) {
+    if let Some((part, rest)) = text.take_some::<Digit>() {
         let kind = Kind::Number;
         return Ok((Token { kind, part }, rest));
     }
-    if let Some((part, rest)) = take_some::<Word>(text) {
+    if let Some((part, rest)) = text.take_some::<Word>() {
         let kind = Kind::Word;
         return Ok((Token { kind, part }, rest));
     }
-    if text.text().starts_with(AsciiStr::literal("\"")) {
+    if text.text().starts_with_char(AsciiChar::Quotation) {
         return take_quoted(text);
     }
     take_mark(text)
@@ -148,7 +147,7 @@ fn take_mark<'a>(text: Part<'a>) -> Result<(Token<'a>, Part<'a>), TokenError<'a>
     requires { part_text text ≢ [] }
     ensures { MatchResult result (IsTaken text.entry) (IsErrorOf text.entry.whole) }
 {
-    if let Some(after) = text.strip_prefix(AsciiStr::literal("#")) {
+    if let Some(after) = text.strip_prefix_char(AsciiChar::Hash) {
         let (kind, (part, rest)) = (Kind::Comment, after.span::<Line>());
         return Ok((Token { kind, part }, rest));
     }
@@ -157,21 +156,6 @@ fn take_mark<'a>(text: Part<'a>) -> Result<(Token<'a>, Part<'a>), TokenError<'a>
         return Ok((Token { kind, part }, rest));
     }
     Err(TokenError::At(text, What::Character))
-}
-
-/// Takes the longest run of a class from the start of a text, if there is one.
-fn take_some<'a, C: Searched>(text: Part<'a>) -> Option<(Part<'a>, Part<'a>)>
-    ensures text { IfSome result (λ sides.
-        IsSpan C.is (part_text text.entry) (part_text sides.0) (part_text sides.1)) }
-    ensures some { IfSome result (λ sides. part_text sides.0 ≢ []) }
-    ensures place { IfSome result (AreSidesOf 0 text.entry) }
-    ensures shorter { IfSome result (λ sides. text.entry.start < sides.1.start) }
-{
-    let sides = text.span::<C>();
-    if sides.0.is_empty() {
-        return None;
-    }
-    Some(sides)
 }
 
 /// Takes a quoted text from the start of a text.
