@@ -1,12 +1,13 @@
-//! Callers of `take_quoted`.
+//! Callers of `take_quoted`, `unquote` and `push_quoted`.
 
-ghost use Rattle.std.specs.Prelude.{◌≡◌, ◌↔◌, IsOkAnd, IsTrue, List, ℕ};
+ghost use Rattle.std.specs.Prelude.{◌≡◌, ◌↔◌, IfOk, IsOkAnd, IsTrue, List, ℕ};
 ghost use Rattle.ascii_formats.specs.Quotes.{StartsQuoted};
 ghost use Rattle.ascii.specs.View.{text_of};
 
-use ascii::{AsciiChar, AsciiStr};
-use ascii_formats::AsciiStrExt;
+use ascii::{AsciiChar, AsciiStr, AsciiString};
 use ascii_formats::quotes::QuoteError;
+use ascii_formats::{AsciiStrExt, AsciiStringExt};
+use std::alloc::{AllocError, Global};
 
 /// Returns `true` if a quoted string is at the start of the view.
 pub fn starts_quoted(view: AsciiStr<'_>) -> bool
@@ -30,4 +31,21 @@ pub fn take_back<'a>(
         (text_of taken.0 ≡ text_of inside.entry) × (text_of taken.1 ≡ text_of rest.entry)) }
 {
     view.take_quoted(AsciiChar::Quotation, AsciiChar::BackSlash)
+}
+
+/// Writes a text in quotes and reads it back, which gives the text.
+pub fn through_quotes(
+    alloc: Global,
+    view: AsciiStr<'_>,
+    quote: AsciiChar,
+    escape: AsciiChar,
+) -> Result<AsciiString, AllocError>
+    ensures { IfOk result (λ string. string.text ≡ text_of view.entry) }
+{
+    let mut written = AsciiString::new(alloc);
+    written.push_quoted(view, quote, escape)?;
+    match written.as_ascii_str().take_quoted(quote, escape) {
+        Ok((inside, _rest)) => inside.unquote(alloc, escape),
+        Err(_) => unreachable!(),
+    }
 }
