@@ -1,16 +1,12 @@
-use Rattle.std.proofs.Common.{◌≡◌, [], ◌∷◌, ◌++◌, rules}
-use Rattle.std.proofs.lemmas.List.Elements.{All-push}
+use Rattle.std.proofs.Common.{◌∷◌, rules}
 use Rattle.ascii_formats.specs.Parts.{part_text}
 use Rattle.examples.specs.Log.{IsParam, param_text}
-use Rattle.examples.proofs.LogLemmas.{followed_more}
+use Rattle.examples.proofs.LogLemmas.{one_more}
 use Rattle.examples.proofs.syslog.take_element.Goals as goal
 
 pub params-preserved : goal.params-preserved
 params-preserved c =
     let inv = c.params.invariant in
-    let taken = c.in_ok-param.ensures in
-    let items : c.push.new.self.items ≡ c.params.params.items ++ c.in_ok-param.param ∷ [] = search rules in
-    rw items (
-      followed_more param_text (91 ∷ part_text c.in_ok-id.id) _ _ _ _ _ inv.0 taken.1,
-      All-push IsParam _ _ inv.1 taken.0,
-    )
+    let more = one_more IsParam param_text (91 ∷ part_text c.in_ok-id.id) _ _ _ _ _ _ inv.0 inv.1
+    c.in_ok-param.ensures (search rules) in
+    (more.0, more.1)
