@@ -241,6 +241,7 @@ calls! {
     fn ask_hosts(first: &[u8], second: &[u8]);
     fn ask_setting(source: &[u8]);
     fn ask_settings(source: &[u8]);
+    fn ask_field(text: &[u8], line: &[u8]);
     fn ask_row(columns: usize, source: &[u8]);
     fn ask_screen(width: usize, source: &[u8]);
     fn ask_identifier(source: &[u8]);

@@ -2,6 +2,7 @@
 
 use super::characters::is_white;
 use super::edits::INLINE;
+use super::rewrites::quoted_in;
 use super::string;
 use super::walks::{lines_of, pieces};
 use super::words::is_token;
@@ -17,6 +18,10 @@ pub static KINDS: &[Kind] = &[
     allocating("host names", hosts),
     kind("settings", setting),
     allocating("settings files", settings),
+    allocating("fields of CSV", |random, asked| {
+        let (text, line) = (random.line(b",\"\n"), random.joined(&[b"\"", b"a", b"\"\"", b"b,", b"\"a b\","]));
+        ask_field(&text, &line, asked);
+    }),
     allocating("rows", row),
     long("texts on a screen", 4, screen).allocating(),
     kind("identifiers", identifier),
@@ -183,6 +188,45 @@ pub fn settings(random: &mut Random, asked: &mut Asked) {
         }
     }
     asked.want.all(settings);
+}
+
+/// Whether a field without quotes cannot have the byte.
+fn is_special(byte: &u8) -> bool {
+    b",\"\r\n".contains(byte)
+}
+
+/// The text of the field at the start of a line, and what comes after the field.
+fn field_of(line: &[u8]) -> Result<(String, &[u8]), Fault> {
+    match quoted_in(line, b'"', b'"') {
+        Ok((inside, rest)) => Ok((string(inside.to_vec()).replace("\"\"", "\""), rest)),
+        Err(Some(_)) => Err(Fault("closed", None)),
+        Err(None) => {
+            let end = line.iter().position(is_special).unwrap_or(line.len());
+            Ok((string(line[..end].to_vec()), &line[end..]))
+        }
+    }
+}
+
+/// A field for a text, and the text of the field at the start of a line.
+pub fn ask_field(text: &[u8], line: &[u8], asked: &mut Asked) {
+    calls::ask_field(asked, text, line);
+    let want = &mut asked.want;
+    let field = match text.iter().any(is_special) {
+        true => format!("\"{}\"", string(text.to_vec()).replace('"', "\"\"")),
+        false => string(text.to_vec()),
+    };
+    let needs = Needs::memory_if(!field.is_empty());
+    want.put((true, field));
+    want.fails_by(needs, 0, |want| want.put((false, "")));
+    match field_of(line) {
+        Ok((text, rest)) => {
+            let is_ended = rest.is_empty() || rest[0] == b',';
+            let comma = Fault("comma", Some(line.len() - rest.len()));
+            let needs = Needs::memory_if(!text.is_empty());
+            want.allocated(needs, if is_ended { Ok((text, rest)) } else { Err(comma) });
+        }
+        Err(fault) => want.put(fault),
+    }
 }
 
 pub fn row(random: &mut Random, asked: &mut Asked) {

@@ -3,7 +3,7 @@
 use super::{Row, Rows};
 use crate::asked::{Asked, Fault, Put};
 use crate::calls;
-use crate::kinds::recipes::{ask_headers, ask_hosts};
+use crate::kinds::recipes::{ask_field, ask_headers, ask_hosts};
 use std::cmp::Ordering::{self, Equal, Greater, Less};
 
 pub static ROWS: &[Row] = &[
@@ -49,6 +49,20 @@ pub static ROWS: &[Row] = &[
             calls::ask_settings(asked, file.as_bytes());
             asked.want.times(2_000, ("key", "some value"));
         });
+    }),
+    ("fields_of_csv_are_written_and_read", |rows| {
+        for (text, field) in FIELDS {
+            rows.expect(((true, field), text, ",x"), |asked| {
+                calls::ask_field(asked, text.as_bytes(), [field, ",x"].concat().as_bytes())
+            });
+        }
+        let text = "a\"".repeat(5_000);
+        rows.ask(|asked| ask_field(text.as_bytes(), text.as_bytes(), asked));
+    }),
+    ("fields_of_csv_are_rejected", |rows| {
+        for (line, fault) in NOT_FIELDS {
+            rows.expect(((true, ""), fault), |asked| calls::ask_field(asked, b"", line.as_bytes()));
+        }
     }),
     ("rows_have_a_field_for_each_column", table_rows),
     ("screens_show_controls_tabs_and_long_lines", |rows| {
@@ -214,6 +228,29 @@ static FILES: [(&str, Result<&[(&str, &str)], &str>); 7] = [
     ("a=1\r\n\r\n = fast", Err("3:2: no key before the '='")),
     ("=", Err("1:1: no key before the '='")),
     ("a=1\n\n\nb=2\n\t=# a=b\n", Err("5:2: no key before the '='")),
+];
+
+/// A text, and its field, as in RFC 4180.
+static FIELDS: [(&str, &str); 9] = [
+    ("", ""),
+    ("aaa", "aaa"),
+    (" a b ", " a b "),
+    ("b\r\nbb", "\"b\r\nbb\""),
+    ("b\"bb", "\"b\"\"bb\""),
+    ("a,b", "\"a,b\""),
+    ("\"", "\"\"\"\""),
+    (",", "\",\""),
+    ("'\\;\t", "'\\;\t"),
+];
+
+/// A line that does not begin with a field, and why.
+static NOT_FIELDS: [(&str, Fault); 6] = [
+    ("\"", Fault("closed", None)),
+    ("\"a\"\"", Fault("closed", None)),
+    ("\"a\"b", Fault("comma", Some(3))),
+    ("\"a,\"\"b\" ,c", Fault("comma", Some(8))),
+    ("ab\"c", Fault("comma", Some(2))),
+    ("ab\r\n", Fault("comma", Some(2))),
 ];
 
 fn table_rows(rows: &mut Rows) {

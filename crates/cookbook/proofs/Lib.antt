@@ -1,3 +1,4 @@
+pub mod CsvLemmas
 pub mod HeaderMapLemmas
 pub mod HostLemmas
 pub mod LastLinesLemmas

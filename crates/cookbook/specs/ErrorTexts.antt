@@ -1,6 +1,8 @@
 -- The texts of the errors of the cookbook. Positions, fields and lines are counted from 0.
 use Rattle.std.specs.Prelude.{List, ℕ, ◌++◌, codes, decimal}
 use Rattle.ascii_formats.specs.Places.{place_text}
+use Rattle.cookbook.specs.declared.csv.FieldError.{FieldError}
+use Rattle.cookbook.specs.declared.csv.FieldError.TheVariants.{NotClosed, NotComma}
 use Rattle.cookbook.specs.declared.headers.HeaderBlockError.{HeaderBlockError}
 use Rattle.cookbook.specs.declared.headers.HeaderBlockError.TheVariants.{InLine}
 use Rattle.cookbook.specs.declared.headers.HeaderError.{HeaderError}
@@ -25,6 +27,12 @@ row_error_text (Empty field start) =
 row_error_text (TooFew found) = codes "too few fields: " ++ decimal found
 row_error_text (TooMany start) = codes "one field too many at index " ++ decimal start
 row_error_text other = codes "no memory"
+
+-- the text of an error of `take_field`
+abbrev pub field_error_text : FieldError → List ℕ
+field_error_text NotClosed = codes "no quote closes the field"
+field_error_text (NotComma position) = codes "no comma at index " ++ decimal position
+field_error_text other = codes "no memory"
 
 -- the text of an error of `read_setting`
 abbrev pub setting_error_text : SettingError → List ℕ

@@ -1,4 +1,5 @@
 pub mod Cases
+pub mod Csv
 pub mod ErrorTexts
 pub mod HeaderMap
 pub mod Headers

@@ -3,6 +3,7 @@
 
 ghost use Rattle.std.specs.Prelude.{Some};
 
+use crate::csv::FieldError;
 use crate::headers::{HeaderBlockError, HeaderError};
 use crate::hosts::HostNameError;
 use crate::settings::{SettingError, SettingFault, SettingsError};
@@ -29,6 +30,22 @@ impl fmt::Display for RowError {
 }
 
 impl Error for RowError {}
+
+impl fmt::Display for FieldError {
+    ghost use Rattle.cookbook.specs.ErrorTexts.{field_error_text};
+
+    ghost output = { λ error. Some (field_error_text error) };
+
+    fn fmt<W: fmt::Write>(&self, f: &mut fmt::Formatter<W>) -> fmt::Result {
+        match *self {
+            FieldError::NotClosed => f.write_str("no quote closes the field"),
+            FieldError::NotComma(position) => write!(f, "no comma at index {position}"),
+            FieldError::Memory => f.write_str("no memory"),
+        }
+    }
+}
+
+impl Error for FieldError {}
 
 impl fmt::Display for SettingError {
     ghost use Rattle.cookbook.specs.ErrorTexts.{setting_error_text};

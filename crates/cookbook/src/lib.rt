@@ -7,6 +7,7 @@
 //! | a host name | to check it, and to compare it ignoring ASCII case | `hosts` |
 //! | a settings file, `key = value # comment` | the key and the value of a line | `settings` |
 //! | a table with tabs between the fields | the fields of a row | `table` |
+//! | a text with any characters, or a line of a CSV file | a field for the text, or the text of a field | `csv` |
 //! | a text that begins with an identifier | the identifier and the rest, by a class of one's own | `identifiers` |
 //! | a log | its last lines, and whether the last one is complete | `last_lines` |
 //! | bytes that may not be ASCII | a text with `?` in place of other bytes | `copy_lossy` |
@@ -17,6 +18,7 @@
 #![tactic(auto)]
 
 pub mod copy_lossy;
+pub mod csv;
 mod errors;
 pub mod header_map;
 pub mod headers;

@@ -3,8 +3,9 @@
 ghost use Rattle.std.specs.Prelude.{◌≤◌};
 
 use crate::answer::{Answer, Put};
-use ascii::AsciiStr;
+use ascii::{AsciiStr, AsciiString};
 use cookbook::copy_lossy::copy_lossy;
+use cookbook::csv::{FieldError, push_field, take_field};
 use cookbook::header_map::HeaderMap;
 use cookbook::headers::{
     Header, HeaderBlockError, HeaderError, find_header, read_header, read_headers,
@@ -120,6 +121,23 @@ pub fn ask_settings(alloc: Global, source: AsciiStr, answer: &mut Answer) {
         Ok(settings) => answer.put(settings),
         Err(SettingsError::Memory) => answer.put(AllocError),
         Err(error) => answer.put_result(format!(in alloc; "{error}")),
+    }
+}
+
+/// A CSV field for a text, and the text of the field at the start of a line, with what comes after the field.
+pub fn ask_field(alloc: Global, text: AsciiStr, line: AsciiStr, answer: &mut Answer) {
+    let mut field = AsciiString::new(alloc);
+    answer.put((push_field(&mut field, text).is_ok(), field));
+    answer.put_result(take_field(alloc, line));
+}
+
+impl Put for FieldError {
+    fn put(self, answer: &mut Answer) {
+        match self {
+            FieldError::NotClosed => answer.put("closed"),
+            FieldError::NotComma(position) => answer.put(("comma", position)),
+            FieldError::Memory => answer.put(AllocError),
+        }
     }
 }
 
