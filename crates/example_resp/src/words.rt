@@ -10,7 +10,8 @@ ghost use Rattle.example_resp.specs.Words.{HasMark, IsWord, IsWordFault, Opens, 
 ghost use Rattle.example_resp.specs.Words.{escaped_code};
 
 use crate::commands::Rejection;
-use ascii::{AsciiChar, AsciiRange, AsciiStr, AsciiString};
+use ascii::{AsciiChar, AsciiStr, AsciiString};
+use ascii_formats::AsciiStrExt;
 use std::alloc::Global;
 
 /// What characters are quoted in.
@@ -214,6 +215,6 @@ fn split_first<'a>(text: AsciiStr<'a>) -> Option<(u8, AsciiStr<'a>)>
         (λ split. text_of text.entry ≡ split.0 ∷ text_of split.1) }
     ensures small { IfSome result (λ split. split.0 < 128) }
 {
-    let first = text.first()?;
-    Some((first.as_byte(), text.slice(AsciiRange::From(1))))
+    let (first, rest) = text.split_first()?;
+    Some((first.as_byte(), rest))
 }

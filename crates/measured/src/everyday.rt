@@ -230,7 +230,7 @@ pub fn bench_settings(source: &[u8]) -> usize {
     let mut sum: usize = 0;
     for line in text.lines() {
         let line = line.trim();
-        if line.is_empty() || line.starts_with(AsciiStr::literal("#")) {
+        if line.is_empty() || line.starts_with_char(AsciiChar::Hash) {
             continue;
         }
         let Some((name, value)) = line.split_once(AsciiChar::Equal) else {
