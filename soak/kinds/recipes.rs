@@ -18,10 +18,7 @@ pub static KINDS: &[Kind] = &[
     allocating("host names", hosts),
     kind("settings", setting),
     allocating("settings files", settings),
-    allocating("fields of CSV", |random, asked| {
-        let (text, line) = (random.line(b",\"\n"), random.joined(&[b"\"", b"a", b"\"\"", b"b,", b"\"a b\","]));
-        ask_field(&text, &line, asked);
-    }),
+    allocating("fields of CSV", field),
     allocating("rows", row),
     long("texts on a screen", 4, screen).allocating(),
     kind("identifiers", identifier),
@@ -195,38 +192,42 @@ fn is_special(byte: &u8) -> bool {
     b",\"\r\n".contains(byte)
 }
 
-/// The text of the field at the start of a line, and what comes after the field.
-fn field_of(line: &[u8]) -> Result<(String, &[u8]), Fault> {
-    match quoted_in(line, b'"', b'"') {
-        Ok((inside, rest)) => Ok((string(inside.to_vec()).replace("\"\"", "\""), rest)),
-        Err(Some(_)) => Err(Fault("closed", None)),
+/// The text of the field at the start of a line, and what comes after the field; and whether the text needs memory.
+type Taken = (Needs, Result<(String, String), Fault>);
+
+fn field_of(line: &[u8]) -> Taken {
+    let (text, rest) = match quoted_in(line, b'"', b'"') {
+        Ok((inside, rest)) => (string(inside.to_vec()).replace("\"\"", "\""), rest),
+        Err(Some(_)) => return (Needs::Nothing, Err(Fault("closed", None))),
         Err(None) => {
             let end = line.iter().position(is_special).unwrap_or(line.len());
-            Ok((string(line[..end].to_vec()), &line[end..]))
+            (string(line[..end].to_vec()), &line[end..])
         }
+    };
+    let needs = Needs::memory_if(!text.is_empty());
+    match rest.first() {
+        None | Some(b',') => (needs, Ok((text, string(rest.to_vec())))),
+        Some(_) => (needs, Err(Fault("comma", Some(line.len() - rest.len())))),
     }
 }
 
-/// A field for a text, and the text of the field at the start of a line.
-pub fn ask_field(text: &[u8], line: &[u8], asked: &mut Asked) {
-    calls::ask_field(asked, text, line);
-    let want = &mut asked.want;
-    let field = match text.iter().any(is_special) {
-        true => format!("\"{}\"", string(text.to_vec()).replace('"', "\"\"")),
-        false => string(text.to_vec()),
+pub fn field(random: &mut Random, asked: &mut Asked) {
+    let text = string(random.line(b",\"\n"));
+    let line = random.joined(&[b"\"", b"a", b"\"\"", b"b,", b"\"a b\","]);
+    let field = match text.as_bytes().iter().any(is_special) {
+        true => format!("\"{}\"", text.replace('"', "\"\"")),
+        false => text.clone(),
     };
-    let needs = Needs::memory_if(!field.is_empty());
+    ask_field(&text, &field, &line, field_of(&line), asked);
+}
+
+/// A field for a text, and the text of the field at the start of a line.
+pub fn ask_field(text: &str, field: &str, line: &[u8], (needs, taken): Taken, asked: &mut Asked) {
+    calls::ask_field(asked, text.as_bytes(), line);
+    let want = &mut asked.want;
     want.put((true, field));
-    want.fails_by(needs, 0, |want| want.put((false, "")));
-    match field_of(line) {
-        Ok((text, rest)) => {
-            let is_ended = rest.is_empty() || rest[0] == b',';
-            let comma = Fault("comma", Some(line.len() - rest.len()));
-            let needs = Needs::memory_if(!text.is_empty());
-            want.allocated(needs, if is_ended { Ok((text, rest)) } else { Err(comma) });
-        }
-        Err(fault) => want.put(fault),
-    }
+    want.fails_by(Needs::memory_if(!field.is_empty()), 0, |want| want.put((false, "")));
+    want.allocated(needs, taken);
 }
 
 pub fn row(random: &mut Random, asked: &mut Asked) {

@@ -163,30 +163,29 @@ pub fn requoted(random: &mut Random, asked: &mut Asked) {
         0 => random.short_text(),
         _ => random.joined(&[&[quote], &[escape], b"a", &[escape, escape], &[escape, b'b']]),
     };
-    ask_requoted(quote, escape, &random.text(), &piece, asked);
-}
-
-/// A text with a piece appended in quotes, and what the piece represents between quotes.
-pub fn ask_requoted(quote: u8, escape: u8, text: &[u8], piece: &[u8], asked: &mut Asked) {
-    calls::ask_requoted(asked, quote, escape, text, piece);
-    let want = &mut asked.want;
     let (mut read, mut codes) = (Vec::new(), piece.iter());
     while let Some(code) = codes.next() {
         let next = if *code == escape { codes.next() } else { None };
         read.push(*next.unwrap_or(code));
     }
-    want.allocated(Needs::memory_if(!piece.is_empty()), read);
-    let mut longer = text.to_vec();
-    longer.push(quote);
-    for code in piece {
+    let mut quoted = vec![quote];
+    for code in &piece {
         if [quote, escape].contains(code) {
-            longer.push(escape);
+            quoted.push(escape);
         }
-        longer.push(*code);
+        quoted.push(*code);
     }
-    longer.push(quote);
+    quoted.push(quote);
+    ask_requoted((quote, escape), &random.text(), &piece, &quoted, &read, asked);
+}
+
+/// A text with a piece appended in quotes, and what the piece represents between quotes.
+pub fn ask_requoted(by: (u8, u8), text: &[u8], piece: &[u8], quoted: &[u8], read: &[u8], asked: &mut Asked) {
+    calls::ask_requoted(asked, by.0, by.1, text, piece);
+    let want = &mut asked.want;
+    want.copy(read);
     let start = want.bytes.len();
-    want.put((true, longer));
+    want.put((true, [text, quoted].concat()));
     want.fails(Needs::memory_if(!text.is_empty()), start, Failed);
     want.fails_by(Needs::Memory, start, |want| put_unchanged(text, want));
 }

@@ -1,7 +1,7 @@
 //! What the cookbook reads and shows, by tables.
 
 use super::{Row, Rows};
-use crate::asked::{Asked, Fault, Put};
+use crate::asked::{Asked, Fault, Needs, Put};
 use crate::calls;
 use crate::kinds::recipes::{ask_field, ask_headers, ask_hosts};
 use std::cmp::Ordering::{self, Equal, Greater, Less};
@@ -51,18 +51,18 @@ pub static ROWS: &[Row] = &[
         });
     }),
     ("fields_of_csv_are_written_and_read", |rows| {
-        for (text, field) in FIELDS {
-            rows.expect(((true, field), text, ",x"), |asked| {
-                calls::ask_field(asked, text.as_bytes(), [field, ",x"].concat().as_bytes())
-            });
-        }
-        let text = "a\"".repeat(5_000);
-        rows.ask(|asked| ask_field(text.as_bytes(), text.as_bytes(), asked));
+        let long = ("a\"".repeat(5_000), format!("\"{}\"", "a\"\"".repeat(5_000)));
+        let fields = FIELDS.iter().map(|(text, field)| (text.to_string(), field.to_string()));
+        rows.each(fields.chain([long]), |(text, field), asked| {
+            let needs = Needs::memory_if(!text.is_empty());
+            let taken = Ok((text.clone(), ",x".to_string()));
+            ask_field(&text, &field, format!("{field},x").as_bytes(), (needs, taken), asked);
+        });
     }),
     ("fields_of_csv_are_rejected", |rows| {
-        for (line, fault) in NOT_FIELDS {
-            rows.expect(((true, ""), fault), |asked| calls::ask_field(asked, b"", line.as_bytes()));
-        }
+        rows.each(NOT_FIELDS, |(line, has_text, fault), asked| {
+            ask_field("", "", line.as_bytes(), (Needs::memory_if(has_text), Err(fault)), asked)
+        });
     }),
     ("rows_have_a_field_for_each_column", table_rows),
     ("screens_show_controls_tabs_and_long_lines", |rows| {
@@ -243,14 +243,14 @@ static FIELDS: [(&str, &str); 9] = [
     ("'\\;\t", "'\\;\t"),
 ];
 
-/// A line that does not begin with a field, and why.
-static NOT_FIELDS: [(&str, Fault); 6] = [
-    ("\"", Fault("closed", None)),
-    ("\"a\"\"", Fault("closed", None)),
-    ("\"a\"b", Fault("comma", Some(3))),
-    ("\"a,\"\"b\" ,c", Fault("comma", Some(8))),
-    ("ab\"c", Fault("comma", Some(2))),
-    ("ab\r\n", Fault("comma", Some(2))),
+/// A line that does not begin with a field, whether a text is read from it, and why.
+static NOT_FIELDS: [(&str, bool, Fault); 6] = [
+    ("\"", false, Fault("closed", None)),
+    ("\"a\"\"", false, Fault("closed", None)),
+    ("\"a\"b", true, Fault("comma", Some(3))),
+    ("\"a,\"\"b\" ,c", true, Fault("comma", Some(7))),
+    ("ab\"c", true, Fault("comma", Some(2))),
+    ("\r\n", false, Fault("comma", Some(0))),
 ];
 
 fn table_rows(rows: &mut Rows) {

@@ -4,7 +4,8 @@ use super::{Row, Rows};
 use crate::kinds::conversions::ask_split_off;
 use crate::kinds::rewrites::Escaped::{Invalid, NotAscii};
 use crate::kinds::rewrites::{
-    ask_joined, ask_notation, ask_padded, ask_quoted, ask_range_edits, ask_repeated, ask_unescaped, Escaped, Unquoted,
+    ask_joined, ask_notation, ask_padded, ask_quoted, ask_range_edits, ask_repeated, ask_requoted, ask_unescaped, Escaped,
+    Unquoted,
 };
 
 pub static ROWS: &[Row] = &[
@@ -28,6 +29,19 @@ pub static ROWS: &[Row] = &[
     }),
     ("quoted_texts_with_doubled_quotes", |rows| {
         rows.each(DOUBLED, |(text, expected), asked| ask_quoted(b'"', b'"', text.as_bytes(), expected, asked))
+    }),
+    ("texts_in_quotes_and_what_they_represent", |rows| {
+        for (table, escape) in [(&IN_QUOTES[..], b'\\'), (&IN_DOUBLED[..], b'"')] {
+            rows.each(table, |(text, quoted, read), asked| {
+                let [text, quoted, read] = [text, quoted, read].map(|text| text.as_bytes());
+                ask_requoted((b'"', escape), b"", text, quoted, read, asked)
+            });
+        }
+        let (text, inside) = ("a\"".repeat(10_000), "a\\\"".repeat(10_000));
+        let quoted = format!("\"{inside}\"");
+        rows.ask(|asked| {
+            ask_requoted((b'"', b'\\'), b"a", text.as_bytes(), quoted.as_bytes(), text.as_bytes(), asked)
+        });
     }),
     ("joined_pieces", |rows| {
         rows.each(
@@ -164,6 +178,27 @@ static DOUBLED: [Quoted; 9] = [
     (r#"""#, Err(Some(1))),
     (r#"""""#, Err(Some(3))),
     (r#""a"""#, Err(Some(4))),
+];
+
+/// A text, what it is in quotes with `\` as the escape, and what it represents between quotes.
+static IN_QUOTES: [(&str, &str, &str); 8] = [
+    ("", r#""""#, ""),
+    ("a b", r#""a b""#, "a b"),
+    ("it's", r#""it's""#, "it's"),
+    (r#"a"b"#, r#""a\"b""#, r#"a"b"#),
+    (r"\", r#""\\""#, r"\"),
+    (r"\n", r#""\\n""#, "n"),
+    (r#"\"\\n"#, r#""\\\"\\\\n""#, r#""\n"#),
+    (r"a\", r#""a\\""#, r"a\"),
+];
+
+/// The same with each quote doubled.
+static IN_DOUBLED: [(&str, &str, &str); 5] = [
+    ("", r#""""#, ""),
+    (r"a\", r#""a\""#, r"a\"),
+    (r#"""#, r#""""""#, r#"""#),
+    (r#"a""b"#, r#""a""""b""#, r#"a"b"#),
+    (r#""""#, r#""""""""#, r#"""#),
 ];
 
 /// Texts whose pieces at a comma are joined, and which are repeated.

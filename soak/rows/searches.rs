@@ -177,7 +177,12 @@ static CUTS: [(&str, Option<usize>, Option<usize>, Cut, Cut); 5] = [
 
 fn cuts(rows: &mut Rows) {
     for (text, first, last, once, at_last) in CUTS {
-        rows.expect((first, last, once, at_last), |asked| calls::ask_find_character(asked, b'=', text.as_bytes()));
+        rows.ask(|asked| {
+            calls::ask_find_character(asked, b'=', text.as_bytes());
+            asked.want.put((first, last, once, at_last));
+            asked.want.put((text.starts_with('='), text.strip_prefix('=')));
+            asked.want.put(text.as_bytes().split_first().map(|(code, rest)| (*code, rest)));
+        });
     }
 }
 

@@ -261,7 +261,7 @@ MESSAGES = b"""165 2003-10-11T22:14:15.003Z mymachine.example.com evntslog: An a
   iut: 3
   eventSource: Application
 - b
-  x: a\\"b
+  x: a"b
 34 - host su:
 column 2: not a number that may be here
 column 17: another character belongs here
