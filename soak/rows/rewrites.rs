@@ -4,8 +4,8 @@ use super::{Row, Rows};
 use crate::kinds::conversions::ask_split_off;
 use crate::kinds::rewrites::Escaped::{Invalid, NotAscii};
 use crate::kinds::rewrites::{
-    ask_joined, ask_notation, ask_padded, ask_quoted, ask_range_edits, ask_repeated, ask_requoted, ask_unescaped, Escaped,
-    Unquoted,
+    ask_joined, ask_notation, ask_padded, ask_quoted, ask_range_edits, ask_repeated, ask_requoted, ask_unescaped,
+    Escaped, Unquoted,
 };
 
 pub static ROWS: &[Row] = &[

@@ -1,6 +1,7 @@
 -- Appending a text in parts.
 use Rattle.std.proofs.Common.{◌≡◌, ℕ, zero, suc, ◌+◌, ◌-◌, ◌<◌, ◌≤◌, List, [], ◌∷◌, ◌++◌, length}
-use Rattle.std.proofs.Common.{drop, take, take-append-drop, false, replicate, set, Ok, Err, Result, length-append, arith}
+use Rattle.std.proofs.Common.{drop, take, take-append-drop, false, replicate, set, Ok, Err, Result}
+use Rattle.std.proofs.Common.{length-append, arith}
 use Rattle.std.proofs.Common.{ap, refl, subst, sym, ◌∙◌, ◌/◌, ◌%◌, ◌^◌, ◌≢◌, ◌⊎◌, ⊎_elim, eq-eqb}
 use Rattle.std.proofs.Common.{ne_eqb}
 use Rattle.std.proofs.lemmas.List.{append_assoc, append-nil, drop_all, flat_map_more}
@@ -61,10 +62,12 @@ pub text_more : {E : Type 0} {sure : ℕ} (f : ℕ → List ℕ) (text : List �
     → AppendsInParts sure (f (slice_index text at)) mid new result
     → AppendsInParts sure (flat_map f (take (at + 1) text)) old new result
 text_more {sure = sure} f text at old mid new result inside before part =
-    let more : flat_map f (take at text) ++ f (slice_index text at) ≡ flat_map f (take (at + 1) text)
+    let done = flat_map f (take at text) in
+    let last = f (slice_index text at) in
+    let more : done ++ last ≡ flat_map f (take (at + 1) text)
     = rw (take_more text at 0 inside) (flat_map_more f [] (take at text) (slice_index text at)) in
     subst (λ codes. AppendsInParts sure codes old new result) more
-    (two_parts (flat_map f (take at text)) (f (slice_index text at)) old mid new tt result before part)
+    (two_parts done last old mid new tt result before part)
 
 -- some of what is appended for the codes of a text
 pub some_text : {E F : Type 0} {sure : ℕ} (f : ℕ → List ℕ) (text : List ℕ) (at : ℕ)

@@ -26,8 +26,8 @@
 //! `l.rest.end - l.rest.start`. Nothing here allocates.
 
 ghost use Rattle.std.specs.Prelude.{◌≡◌, ◌≢◌, ◌<◌, ◌≤◌, ◌↔◌, ◌+◌, ◌-◌, [], ◌∷◌, Some, IfOk};
-ghost use Rattle.std.specs.Prelude.{IfSome, IsTrue, MatchOption, MatchResult, drop, length, slice_get};
-ghost use Rattle.std.specs.Prelude.{take};
+ghost use Rattle.std.specs.Prelude.{IfSome, IsTrue, MatchOption, MatchResult, drop, length};
+ghost use Rattle.std.specs.Prelude.{slice_get, take};
 ghost use Rattle.std.proofs.Props.{props};
 ghost use Rattle.ascii.specs.Class.{IsWhitespace};
 ghost use Rattle.ascii.specs.Code.{code_of};

@@ -1,7 +1,7 @@
 //! The calls of a view that read formats.
 
-ghost use Rattle.std.specs.Prelude.{◌≡◌, ℕ, ◌≤◌, ◌↔◌, List, [], ◌∷◌, IfOk, IsOk, IsTrue, MatchOption};
-ghost use Rattle.std.specs.Prelude.{MatchResult, length};
+ghost use Rattle.std.specs.Prelude.{◌≡◌, ℕ, ◌≤◌, ◌↔◌, List, [], ◌∷◌, IfOk, IsOk, IsTrue};
+ghost use Rattle.std.specs.Prelude.{MatchOption, MatchResult, length};
 ghost use Rattle.ascii.specs.Code.{code_of};
 ghost use Rattle.ascii.specs.Search.{IsPrefix, StartsWith};
 ghost use Rattle.ascii.specs.View.{text_of};

@@ -1,5 +1,5 @@
-//! A field of a CSV file, as RFC 4180 has it, written and read. A text with a comma, a quote or a line break is written in
-//! quotes, and each quote in it is doubled.
+//! A field of a CSV file, as RFC 4180 has it, written and read. A text with a comma, a quote or a line break is
+//! written in quotes, and each quote in it is doubled.
 
 ghost use Rattle.std.specs.Prelude.{◌≡◌, ◌++◌, ◌≤◌, IfErr, IfOk, List, MatchResult, length, ℕ};
 ghost use Rattle.std.proofs.Common.{rules};
@@ -55,8 +55,8 @@ impl From<AllocError> for FieldError {
     }
 }
 
-/// Appends a field with the text to a line, or returns an error if the allocation fails; the line is then unchanged. `a b` is
-/// written as it is, and `a,"b"` as `"a,""b"""`.
+/// Appends a field with the text to a line, or returns an error if the allocation fails; the line is then
+/// unchanged. `a b` is written as it is, and `a,"b"` as `"a,""b"""`.
 pub fn push_field(line: &mut AsciiString, text: AsciiStr<'_>) -> Result<(), AllocError>
     ensures { (field : List ℕ) × IsWrittenField (text_of text.entry) field
         × GrowsTo 0 (line.old.text ++ field) line.old line.new result }
@@ -67,8 +67,9 @@ pub fn push_field(line: &mut AsciiString, text: AsciiStr<'_>) -> Result<(), Allo
     line.push_quoted(text, AsciiChar::Quotation, AsciiChar::Quotation)
 }
 
-/// Returns the text of the field at the start of a line without its ending, and what comes after the field: nothing, or a
-/// comma and the other fields. For `"a,""b""",c` the text is `a,"b"`, and `,c` comes after it.
+/// Returns the text of the field at the start of a line without its ending, and what comes after the field:
+/// nothing, or a comma and the other fields; or an error with what is wrong there. For `"a,""b""",c` the text
+/// is `a,"b"`, and `,c` comes after it.
 pub fn take_field<'a>(
     alloc: Global,
     line: AsciiStr<'a>,

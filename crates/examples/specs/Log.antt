@@ -20,7 +20,8 @@ use Rattle.examples.specs.declared.syslog.Param.{Param}
 
 -- a code that a name may contain: a visible one other than `"`, `=` and `]`
 abbrev pub IsNameCode : ℕ → Type 0
-IsNameCode code = IsInRange 33 33 code ⊎ IsInRange 35 60 code ⊎ IsInRange 62 92 code ⊎ IsInRange 94 126 code
+IsNameCode code = IsInRange 33 33 code ⊎ IsInRange 35 60 code ⊎ IsInRange 62 92 code
+    ⊎ IsInRange 94 126 code
 
 -- `number` is up to three digits that write a number of at most `most`
 pub record IsNumber (most : ℕ) (number : Number) : Type 0 where
@@ -93,8 +94,8 @@ pub record IsFollowed (part : Part) (taken : List ℕ) (rest : Part) : Type 0 wh
   pub start : part.start < rest.start
   pub end : rest.end ≡ part.end
 
--- `Ok`: something of which `Is` is true, written at the start of `part`, and the rest of `part`. `Err`:
--- the part at fault is a part of the same text
+-- `Ok`: something of which `Is` is true, written at the start of `part`, and the rest of `part`.
+-- `Err`: the part at fault is a part of the same text
 abbrev pub Takes : {T : Type 0} → (T → Type 0) → (T → List ℕ) → Part → Result (T × Part) LogError
     → Type 0
 Takes Is written part result = MatchResult result

@@ -23,8 +23,8 @@ pub fn ask_find(source: AsciiStr, needle: AsciiStr, answer: &mut Answer) {
     answer.put((contains, source.count(needle)));
 }
 
-/// The first and the last position of a character, and the two sides of each; whether the text starts with it, and the text
-/// after it and after any character.
+/// The first and the last position of a character, and the two sides of each; whether the text starts with it, and the
+/// text after it and after any character.
 pub fn ask_find_character(on: AsciiChar, source: AsciiStr, answer: &mut Answer) {
     answer.put((source.position(on), source.rposition(on)));
     answer.put((source.split_once(on), source.rsplit_once(on)));
