@@ -40,7 +40,7 @@ pub fn bench_strict_headers(source: &[u8]) -> usize {
     for line in text.lines() {
         // The token ends at the colon.
         let (name, rest) = line.span::<Token>();
-        let Some(value) = rest.strip_prefix(AsciiStr::literal(":")) else {
+        let Some(value) = rest.strip_prefix_char(AsciiChar::Colon) else {
             return sum;
         };
         let value = value.trim_matches::<Blank>();
@@ -103,7 +103,7 @@ pub fn bench_lookup(source: &[u8], name: &[u8]) -> usize {
         // The colon of the wanted name has one place.
         if line.get_ascii(wanted.len()) == Some(AsciiChar::Colon)
             && let Some(rest) = line.strip_prefix_ignore_ascii_case(wanted)
-            && let Some(value) = rest.strip_prefix(AsciiStr::literal(":"))
+            && let Some(value) = rest.strip_prefix_char(AsciiChar::Colon)
         {
             return value.trim().len();
         }
@@ -170,7 +170,7 @@ pub fn bench_table(source: &[u8]) -> usize {
             return 0;
         };
         sum = sum.wrapping_add(number as usize);
-        'fields: while let Some(fields) = rest.strip_prefix(AsciiStr::literal(",")) {
+        'fields: while let Some(fields) = rest.strip_prefix_char(AsciiChar::Comma) {
             let Ok((number, others)) = fields.take_number::<u32>() else {
                 return 0;
             };
