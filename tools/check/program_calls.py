@@ -179,7 +179,7 @@ FILTER = [
     Call("lines of replaced bytes", ["lines", "--other", "replace", "other", "text"], b"", 0, b"ab?c\nx\ny\n"),
     Call("escape of replaced bytes", ["escape", "--other=replace"], b"\n\200", 0, b"\\n?"),
     Call("--other=stop", ["upper", "--other=stop"], b"ab\310c", 1, b"AB", NOT_ASCII[0]),
-    Call("--other=replace with check", ["check", "--other=replace"], b"", 2, b"", said("--other is no option of check")),
+    Call("--other=replace with check", ["check", "--other=replace"], b"", 2, b"", said("--other is not an option of check")),
     Call("--other with another word", ["copy", "--other=drop"], b"", 2, b"", ANY),
     Call("a byte above 127", ["copy"], b"ab\310c", 1, b"ab", NOT_ASCII[0]),
     Call("files", ["upper", "text", "-", "empty", "text"], b"abc", 0, b"X\r\nYABCX\r\nY"),

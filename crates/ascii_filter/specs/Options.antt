@@ -77,7 +77,7 @@ TaskOutcome options (Ok (Check check)) =
 TaskOutcome options (Err line) =
     ((line.now ≡ codes "ascii_filter: there is no such mode\n")
     × (options.mode.now ≢ codes "check") × ¬ (IsBoundedName options.mode.now))
-    ⊎ (((line.now ≡ codes "ascii_filter: --other is no option of check\n")
+    ⊎ (((line.now ≡ codes "ascii_filter: --other is not an option of check\n")
     × (options.mode.now ≡ codes "check") × (options.other.now ≡ codes "replace"))
     ⊎ (((line.now ≡ codes "ascii_filter: --count, --max, --null and --quiet are options of check\n")
     × IsBoundedName options.mode.now × ¬ (HasNoOptionOfCheck options))

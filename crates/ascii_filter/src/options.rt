@@ -123,7 +123,7 @@ pub fn task_of(options: Options<'_>) -> Result<Task, &'static str>
     let is_replacing = options.other == OTHERS[1];
     if options.mode == CHECK {
         if is_replacing {
-            return Err("ascii_filter: --other is no option of check\n");
+            return Err("ascii_filter: --other is not an option of check\n");
         }
         let most = if is_quiet { 1 } else { max.unwrap_or(u64::MAX) };
         return Ok(Task::Check(Check {
