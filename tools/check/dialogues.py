@@ -107,6 +107,9 @@ DIALOGUES = [
     mail("commands without an argument", (b"HELO\r\nEHLO\r\nVRFY\r\nHELO  \r\nVRFY \t\r\n", ARGUMENT * 5)),
     mail("white space after a command", (b"HELO c \t\r\nMAIL FROM:<a@b> \r\nRCPT TO:<c@d>\t\r\nDATA  \r\n. \r\n.\r\n", BEGUN[1] + OK),
          (b"VRFY c \r\nRSET \r\nNOOP\t\r\nQUIT \r\n", NO_VRFY + OK * 2 + b"221 bye\r\n")),
+    *[mail(f"a client that sends {verb}", (verb.encode() + b" / HTTP/1.1\r\nNOOP\r\n", b"421 closing\r\n"))
+      for verb in ("GET", "POST", "PUT", "HEAD", "CONNECT")],
+    mail("a request after the introduction", (b"HELO c\r\nGET / HTTP/1.1\r\n", OK + b"500 unknown command\r\n")),
     mail("a byte above 127", (b"NOOP\xc4\r\nQUIT\r\n", BAD + b"221 bye\r\n")),
     mail("a byte above 127 in a message", BEGUN, (b"caf\xc3\xa9\r\nline\r\n", b""), (b".\r\nQUIT\r\n", DROPPED)),
     mail("a mail after one that was dropped", BEGUN, (b"\xff\r\n.\r\n" + MAIL, b"554 bad message\r\n" + MAILED)),

@@ -434,8 +434,12 @@ module _ (old new : State) (line : List ℕ) (replies : List (List ℕ)) (asked 
   pub outside_step : Answers old line replies asked new
       → StaysOutside old said_here new ⊎ BeginsMessage old said_here new
   outside_step answers =
-      let command = answers_command old.stage apart answers in
-      by_outcome command.0 command.1 command.2
+      elim (answers_command old.stage apart answers) [
+        | inl stranger ↦
+            inl (faulty old new said_here Closing apart (λ is. cc) (λ is. cc) stranger.1.0
+            stranger.1.2)
+        | inr verb ↦ by_outcome verb.1.0 verb.1.1 verb.1.2
+      ]
 
 -- outside a message, a line that was rejected is answered
 refuses_outside : (stage : Stage) (old new : State) (replies : List (List ℕ)) (error : LineError)

@@ -97,6 +97,12 @@ IsFault line fault = (said : List ℕ) × (verb : Verb) × (argument : List ℕ)
 abbrev pub ReadsCommand : List ℕ → Result Command Reply → Type 0
 ReadsCommand line result = MatchResult result (Says line) (IsFault line)
 
+-- `line` begins as a request of HTTP does
+abbrev pub IsForeign : List ℕ → Type 0
+IsForeign line = StartsWith (codes "GET ") line ⊎ StartsWith (codes "POST ") line
+    ⊎ StartsWith (codes "PUT ") line ⊎ StartsWith (codes "HEAD ") line
+    ⊎ StartsWith (codes "CONNECT ") line
+
 -- the line of a reply
 abbrev pub reply_line : Reply → List ℕ
 reply_line reply.Bye = codes "221 bye"

@@ -8,7 +8,7 @@ use Rattle.ascii_lines.specs.declared.line_reader.LineError.{LineError}
 use Rattle.ascii_lines.specs.declared.line_reader.LineError.TheVariants.{LoneBreak, NotAscii, TooLong}
 use Rattle.ascii_lines.specs.declared.serving.Next.{Next}
 use Rattle.ascii_lines.specs.declared.serving.Next.TheVariants as next
-use Rattle.example_smtp.specs.Commands.{ReadsCommand, reply_line}
+use Rattle.example_smtp.specs.Commands.{IsForeign, ReadsCommand, reply_line}
 use Rattle.example_smtp.specs.Mail.{Mail, State, Unstuffs, no_mail}
 use Rattle.example_smtp.specs.Mailbox.{Stores}
 use Rattle.example_smtp.specs.declared.commands.Command.{Command}
@@ -95,12 +95,27 @@ Follows old command replies asked new =
     ⊎ (IsAllowed old.stage command × ¬ (Fits (length old.draft.recipients) command)
     × Rejects old reply.TooManyRecipients replies asked new)
 
--- the answer to a line that is to say a command
-abbrev pub AnswersCommand : State → List ℕ → List (List ℕ) → Next → State → Type 0
-AnswersCommand old line replies asked new = (outcome : Result Command Reply)
+-- the answer to a line that is to say a command, by the command that it says, if it does
+abbrev pub AnswersVerb : State → List ℕ → List (List ℕ) → Next → State → Type 0
+AnswersVerb old line replies asked new = (outcome : Result Command Reply)
     × ReadsCommand line outcome
     × MatchResult outcome (λ command. Follows old command replies asked new)
     (λ fault. Rejects old fault replies asked new)
+
+-- a client that has not introduced itself sends the first line of another protocol
+abbrev pub IsStranger : State → List ℕ → Type 0
+IsStranger old line = (old.stage ≡ Greeting) × IsForeign line
+
+-- the session is closed with 421, and is otherwise unchanged
+abbrev pub Leaves : State → List (List ℕ) → Next → State → Type 0
+Leaves old replies asked new =
+    (replies ≡ reply_line reply.Closing ∷ []) × (asked ≡ next.Close) × (new ≡ old)
+
+-- the answer to a line that is to say a command: a stranger is left
+abbrev pub AnswersCommand : State → List ℕ → List (List ℕ) → Next → State → Type 0
+AnswersCommand old line replies asked new =
+    (IsStranger old line × Leaves old replies asked new)
+    ⊎ (¬ (IsStranger old line) × AnswersVerb old line replies asked new)
 
 -- the most bytes of the text of a message
 abbrev pub most_bytes : ℕ

@@ -4,7 +4,8 @@ ghost use Rattle.std.specs.Prelude.{◌↔◌, ◌≡◌, IsTrue, List, MatchOpt
 ghost use Rattle.ascii.specs.Search.{StartsWith};
 ghost use Rattle.ascii.specs.View.{text_of};
 ghost use Rattle.example_smtp.specs.Commands.{BeginsWithVerb, HasParts, IsCall, IsPartsFault};
-ghost use Rattle.example_smtp.specs.Commands.{IsPath, IsWord, ReadsCommand, name_of, reply_line};
+ghost use Rattle.example_smtp.specs.Commands.{IsForeign, IsPath, IsWord, ReadsCommand, name_of};
+ghost use Rattle.example_smtp.specs.Commands.{reply_line};
 
 use crate::paths::{between, is_recipient, is_sender};
 use ascii::classes::Blank;
@@ -229,6 +230,25 @@ fn command_of<'a>(verb: Verb, argument: AsciiStr<'a>) -> Result<Command<'a>, Rep
         Verb::Quit if argument.is_empty() => Ok(Command::Leave),
         _ => Err(Reply::BadArgument),
     }
+}
+
+/// Returns `true` if the line begins as a request of HTTP does, which a browser may be made to send to any port.
+pub fn is_foreign(line: AsciiStr<'_>) -> bool
+    ensures { IsTrue result ↔ IsForeign (text_of line.entry) }
+{
+    if line.starts_with(AsciiStr::literal("GET ")) {
+        return true;
+    }
+    if line.starts_with(AsciiStr::literal("POST ")) {
+        return true;
+    }
+    if line.starts_with(AsciiStr::literal("PUT ")) {
+        return true;
+    }
+    if line.starts_with(AsciiStr::literal("HEAD ")) {
+        return true;
+    }
+    line.starts_with(AsciiStr::literal("CONNECT "))
 }
 
 /// Returns `true` if the text starts with a space.

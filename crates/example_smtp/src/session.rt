@@ -8,7 +8,7 @@ ghost use Rattle.example_smtp.specs.Mailbox.{Stores};
 ghost use Rattle.example_smtp.specs.Session.{Fits, IsAllowed, next_after, refusal_of};
 ghost use Rattle.example_smtp.specs.Session.{reply_of_fault, reply_to, reset_stage, texts_of};
 
-use crate::commands::{Command, Reply, read_command};
+use crate::commands::{Command, Reply, is_foreign, read_command};
 use crate::mailbox::Mailbox;
 use ascii_devices::Log;
 use ascii_lines::{AsciiStr, AsciiString, Ending, Handler, LineError, Next, Replies, Sink};
@@ -109,7 +109,8 @@ impl<'a> Model for Session<'a> {
 
 impl<'a> Session<'a> {
     ghost use Rattle.example_smtp.specs.Mail.{IsFresh, no_mail};
-    ghost use Rattle.example_smtp.specs.Session.{Answers, AnswersCommand, AnswersLine, Follows};
+    ghost use Rattle.example_smtp.specs.Session.{Answers, AnswersCommand, AnswersLine, AnswersVerb};
+    ghost use Rattle.example_smtp.specs.Session.{Follows, IsStranger};
     ghost use Rattle.example_smtp.specs.Session.{EndsMessage, Keeps, Refuses, after, texts_of};
 
     /// Creates a session that has received nothing, and stores messages in the mailbox, if there is one. Does not
@@ -151,9 +152,36 @@ impl<'a> Session<'a> {
         }
     }
 
-    /// Takes a line that is to say a command.
+    /// Takes a line that is to say a command. A client that begins with a request of HTTP is left.
     fn plan_command(&mut self, line: AsciiStr<'_>) -> Result<Plan, AllocError>
         ensures answers { IfOk result (λ plan. AnswersCommand self.old
+            (text_of line.entry) (texts_of plan.reply) plan.next self.new) }
+        ensures request { IfOk result (λ plan. IsRequest plan.next) }
+        ensures kept { OnErr result
+            ((self.new.received ≡ self.old.received) × (self.new.folder ≡ self.old.folder)) }
+    {
+        if self.is_stranger(line) {
+            return Ok(Plan {
+                reply: Some(Reply::Closing),
+                next: Next::Close,
+            });
+        }
+        self.plan_verb(line)
+    }
+
+    /// Returns `true` if a client that has not introduced itself sends the first line of a request of HTTP.
+    fn is_stranger(&self, line: AsciiStr<'_>) -> bool
+        ensures { IsTrue result ↔ IsStranger self.now (text_of line.entry) }
+    {
+        if self.stage != Stage::Greeting {
+            return false;
+        }
+        is_foreign(line)
+    }
+
+    /// Takes a line that is to say a command, of a client that may be one of mail.
+    fn plan_verb(&mut self, line: AsciiStr<'_>) -> Result<Plan, AllocError>
+        ensures answers { IfOk result (λ plan. AnswersVerb self.old
             (text_of line.entry) (texts_of plan.reply) plan.next self.new) }
         ensures request { IfOk result (λ plan. IsRequest plan.next) }
         ensures kept { OnErr result
