@@ -385,8 +385,7 @@ pub(crate) fn leading_number<N: Number>(
     Ok((number, view.len()))
 }
 
-/// The digit that a byte is in a radix, in either case, or `None`. A letter or a decimal digit is told without a branch,
-/// which the order of digits in a number would make a guess.
+/// The digit that a byte is in a radix, in either case, or `None`. In a radix of up to 10 no letter is looked for.
 #[inline(always)]
 fn digit_of(byte: u8, radix: u8) -> Option<u8>
     requires { radix ≤ 36 }
