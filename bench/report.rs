@@ -495,12 +495,13 @@ gives by itself was not measured.
 ## Everyday tasks
 
 What programs do with text, from bytes that are not checked yet: each side tests that they are ASCII. A task has 128
-texts of different lengths (logs: 4), which each side takes in the same order; bytes and time are the mean of a text. It
-is the same code on each side, as a user of that side writes it, with two exceptions. The lines with a text, also in any
-case, are found by `lines_with` of this library, which searches the whole text, and line by line by std and `memchr`. A
-slug is pushed character by character by the Rust crate, which has no other call for it. *Best Rust* is the task by a
-Rust programmer who measures: over std and `memchr`, with one walk over the bytes, tables, exact sizes, and one search
-over the whole text. The last two rows are the worst cases of a search for a text.
+texts of different lengths (logs: 4), which each side takes in the same order; bytes and time are the mean of a text.
+Ours and *best Rust* are the task by a programmer who measures: best Rust over std and `memchr`, with one walk over the
+bytes, tables, exact sizes, and one search over the whole text. std, `memchr` and the Rust crate have the idioms of their
+side. These are the same code as ours, except where they do more: they cut each header at its colon before they compare
+its name or test its characters, cut a table into fields before they read the numbers, trim both ends of a setting's
+name and value, and find the lines with a text, also in any case, line by line. A slug is pushed character by character
+by the Rust crate, which has no other call for it. The last two rows are the worst cases of a search for a text.
 
 The code is for x86-64-v2. If each machine that runs it has AVX2, give `--cpu x86-64-v3` to `rt run`, to `rt lib` of a
 static library, to `bin/install` or to `bin/bench`: nothing is proved again below. A program checks its processor as it
