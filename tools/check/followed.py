@@ -18,7 +18,7 @@ from samples import QUOTED  # noqa: E402
 BLOCK = re.compile(r"^```(\w+)\n(.*?)^```$", re.MULTILINE | re.DOTALL)
 NAMED = re.compile(r"(?://|#|--) (\S+)\n")
 PROVES = re.compile(r"\brt (check|test|run)\b")
-FOLLOWED = ["README.md", "docs/START.md", "docs/LINES.md"]
+FOLLOWED = ["README.md", "docs/START.md", "docs/LINES.md", "docs/NETWORK.md"]
 COMPILED = "docs/PORTING.md"
 # A page about what this checkout has built, which is not built again in a clone.
 BUILT = "crates/ascii_c/README.md"

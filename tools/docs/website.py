@@ -24,7 +24,7 @@ from owners import MAIN, by_name, owners
 from reference import Reference
 from sources import CRATES, read
 
-FIRST = ["README.md", "docs/START.md", "docs/CONTRACTS.md", "docs/UNPROVED.md", "docs/LINES.md", "docs/RECIPES.md", "docs/PROGRAMS.md",
+FIRST = ["README.md", "docs/START.md", "docs/CONTRACTS.md", "docs/UNPROVED.md", "docs/LINES.md", "docs/NETWORK.md", "docs/RECIPES.md", "docs/PROGRAMS.md",
          "docs/PORTING.md", "docs/PROVED.md", "docs/EVIDENCE.md", "SECURITY.md"]
 # The reference in Markdown, whose pages the site has in HTML by the same names.
 REFERENCE = TOP / "docs/reference"
