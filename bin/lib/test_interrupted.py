@@ -12,7 +12,7 @@ from pathlib import Path
 
 BIN = Path(__file__).resolve().parents[1]
 MOMENTS = 20
-# How many files a crate has: so many that most of the moments are while files are written.
+# How many files a crate has: enough for most of the moments to be while files are written.
 FILES = 20
 CRATES = ["ascii_base", "ascii_search", "ascii", "ascii_formats", "ascii_keys", "ascii_devices", "ascii_run", "ascii_lines", "cookbook",
           "ascii_show", "ascii_filter"]
