@@ -5,7 +5,7 @@
 //! Replies are sent when the channel has to read its device before it can go on: so no reply waits for bytes that a
 //! client sends only after it, and the replies to requests that come together are gathered in the buffer.
 
-ghost use Rattle.std.specs.Prelude.{◌≡◌, ◌≢◌, ◌↔◌, ◌∷◌, [], IfOk, IsTrue, List};
+ghost use Rattle.std.specs.Prelude.{◌≡◌, ◌≢◌, ◌↔◌, ◌∷◌, ◌++◌, [], IfOk, IsTrue, List};
 ghost use Rattle.std.specs.Str.{IsAscii};
 ghost use Rattle.ascii.specs.Lines.{Line};
 ghost use Rattle.ascii.specs.View.{text_of};
@@ -24,8 +24,9 @@ use crate::line_writer::{LineWriter, WriteError};
 use crate::wanted::Wanted;
 use ascii::endings::first_break;
 use ascii::iter::{Ending, Endings};
-use ascii::{AsciiStr, bytes};
+use ascii::{AsciiStr, bytes, text};
 use ascii_devices::{Channel, DeviceFault, Sink};
+use itoa::{Buffer, Integer};
 use std::alloc::{AllocError, Allocator, Global};
 use std::marker::Model;
 
@@ -141,6 +142,7 @@ impl<K: Sink, A: Allocator> Replies<K, A> {
     ///     let mut writer = replies.into_writer();
     ///     writer.flush() // Ok(())
     ///     writer.into_sink().into_inner() // [111, 107, 13, 10]
+    #[tactic(auto, using(crate::proofs::ReplyLemmas::said_line))]
     pub fn fixed_line(&mut self, body: AsciiStr<'_>)
         requires { IsTrue (is_unbroken (text_of body)) }
         ensures { Says self.old (line_reply (text_of body.entry) ∷ []) self.new }
@@ -171,11 +173,30 @@ impl<K: Sink, A: Allocator> Replies<K, A> {
     ///     let mut writer = replies.into_writer();
     ///     writer.flush() // Ok(())
     ///     writer.into_sink().into_inner() // [97, 10, 98, 13, 10]
+    #[tactic(auto, using(crate::proofs::ReplyLemmas::said_text))]
     pub fn text(&mut self, text: AsciiStr<'_>)
         ensures { Says self.old (line_reply (text_of text.entry) ∷ []) self.new }
     {
         self.part(text);
         self.fixed_line(AsciiStr::literal(""));
+    }
+
+    /// Writes a reply as a line: a text, with each CR and LF in it, and then the decimal digits of `n`, after `-` if `n` is
+    /// negative. If the device has failed, nothing is written. Does not allocate.
+    ///
+    ///     let writer = LineWriter::new(alloc, Output::new(Vec::new(alloc)), 64)?;
+    ///     let mut replies = Replies::new(writer, Ending::CrLf);
+    ///     replies.number_line(AsciiStr::literal(":"), 42u64);
+    ///     let mut writer = replies.into_writer();
+    ///     writer.flush() // Ok(())
+    ///     writer.into_sink().into_inner() // [58, 52, 50, 13, 10]
+    #[tactic(auto, using(crate::proofs::ReplyLemmas::said_joined))]
+    pub fn number_line<I: Integer>(&mut self, before: AsciiStr<'_>, n: I)
+        ensures { Says self.old (line_reply (text_of before.entry ++ I.text n) ∷ []) self.new }
+    {
+        let mut digits = Buffer::new();
+        self.part(before);
+        self.text(text::as_ascii_str_unchecked(digits.format(n)));
     }
 
     /// Whether the device has failed.

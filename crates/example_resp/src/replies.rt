@@ -1,7 +1,7 @@
 //! The replies of a store to commands.
 
 ghost use Rattle.std.specs.Option.{option_map};
-ghost use Rattle.std.specs.Prelude.{◌≡◌, ◌∷◌, ◌++◌, [], IfOk, List, OnOk, codes, decimal, map, ℕ};
+ghost use Rattle.std.specs.Prelude.{◌≡◌, IfOk, List, OnOk, map, ℕ};
 ghost use Rattle.ascii.specs.View.{text_of};
 ghost use Rattle.ascii_lines.specs.Replies.{Says, line_reply};
 ghost use Rattle.example_resp.specs.Commands.{Tells, after, error_line, value_reply};
@@ -9,9 +9,8 @@ ghost use Rattle.example_resp.specs.Store.{contents_of};
 
 use crate::commands::{Command, Rejection};
 use crate::store::Store;
-use ascii::{AsciiStr, text};
+use ascii::AsciiStr;
 use ascii_lines::{Replies, Sink};
-use itoa::Buffer;
 use std::alloc::{AllocError, Allocator, Global};
 
 /// What is replied to a request.
@@ -72,20 +71,6 @@ pub fn line_of(rejection: Rejection) -> AsciiStr<'static>
     }
 }
 
-/// Writes a line with a mark and a number. Does not allocate.
-pub fn say_number<K: Sink, A: Allocator>(
-    mark: AsciiStr<'_>,
-    number: usize,
-    replies: &mut Replies<K, A>,
-)
-    ensures { Says replies.old (line_reply (text_of mark.entry ++ decimal number) ∷ [])
-        replies.new }
-{
-    let mut buffer = Buffer::new();
-    replies.part(mark);
-    replies.text(text::as_ascii_str_unchecked(buffer.format(number)));
-}
-
 /// Writes the reply to a value, or to none. Does not allocate.
 pub fn say_value<K: Sink, A: Allocator>(value: Option<AsciiStr<'_>>, replies: &mut Replies<K, A>)
     ensures { Says replies.old (map line_reply (value_reply (option_map text_of value.entry)))
@@ -93,7 +78,7 @@ pub fn say_value<K: Sink, A: Allocator>(value: Option<AsciiStr<'_>>, replies: &m
 {
     match value {
         Some(value) => {
-            say_number(AsciiStr::literal("$"), value.len(), replies);
+            replies.number_line(AsciiStr::literal("$"), value.len());
             replies.text(value);
         }
         None => replies.fixed_line(AsciiStr::literal("$-1")),

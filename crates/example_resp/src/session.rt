@@ -9,7 +9,7 @@ ghost use Rattle.example_resp.specs.Session.{asked_after, next_after, reply_line
 ghost use Rattle.example_resp.specs.Requests.{IsLength};
 
 use crate::commands::{Command, Rejection, read_command};
-use crate::replies::{Reply, follow, line_of, say_number, say_value};
+use crate::replies::{Reply, follow, line_of, say_value};
 use crate::store::Store;
 use crate::words::split_words;
 use ascii::{AsciiStr, AsciiString};
@@ -253,7 +253,7 @@ impl Session {
             Reply::Silence => {}
             Reply::Done => replies.fixed_line(AsciiStr::literal("+OK")),
             Reply::Pong => replies.fixed_line(AsciiStr::literal("+PONG")),
-            Reply::Count(count) => say_number(AsciiStr::literal(":"), count, replies),
+            Reply::Count(count) => replies.number_line(AsciiStr::literal(":"), count),
             Reply::Value => say_value(self.second_value(), replies),
             Reply::Text => say_value(self.second_word(), replies),
             Reply::Fault(rejection) => replies.text(line_of(rejection)),

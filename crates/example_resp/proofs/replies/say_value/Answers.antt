@@ -10,7 +10,7 @@ use Rattle.example_resp.proofs.replies.say_value.Goals as goal
 pub returns-in-Some : goal.returns-in-Some
 returns-in-Some g c =
     let old = c.args.replies.now in
-    let mid = c.say_number.new.replies in
+    let mid = c.number_line.new.self in
     let new = c.text.new.self in
     let value = text_of c.in-Some.value in
     let length_line = subst
@@ -18,7 +18,7 @@ returns-in-Some g c =
     c.literal.ensures
     (subst
     (λ (n : ℕ). Says old (line_reply (text_of c.literal.result ++ decimal n) ∷ []) mid)
-    c.len.ensures c.say_number.ensures) in
+    c.len.ensures c.number_line.ensures) in
     subst
     (λ (v : Option AsciiStr). Says old (map line_reply (value_reply (option_map text_of v))) new)
     (sym c.in-Some.is)
