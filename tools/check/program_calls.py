@@ -249,12 +249,13 @@ not a GGA sentence
 payload 0abc
 """
 TEXT = b"TWO\none\nTwo and three\nthe two lines that are longer than one row\nend\n"
-LOG = b"""<165>1 2003-10-11T22:14:15.003Z mymachine.example.com evntslog - ID47 [exampleSDID@32473 iut="3" \
+LOG = b"""<165>1 2003-10-12T00:14:15.003+02:00 mymachine.example.com evntslog - ID47 [exampleSDID@32473 iut="3" \
 eventSource="Application"][b x="a\\"b"] An application event
 <34>1 - host su 1 m -
 <192>1 - h a p m -
 <1>1 - h a p m -x
 <0>1 - - - - - [a b="]
+<0>1 2003-13-11T22:14:15Z - - - - -
 """
 MESSAGES = b"""165 2003-10-11T22:14:15.003Z mymachine.example.com evntslog: An application event
 - exampleSDID@32473
@@ -263,9 +264,10 @@ MESSAGES = b"""165 2003-10-11T22:14:15.003Z mymachine.example.com evntslog: An a
 - b
   x: a"b
 34 - host su:
-column 2: not a number that may be here
-column 17: another character belongs here
-column 21: not a quoted value
+column 2: expected a smaller number
+column 17: expected ' '
+column 21: expected a quoted text
+column 6: expected a time
 """
 TOKENS = b"""1:1: Word let
 1:5: Word x_1
@@ -299,8 +301,8 @@ EXAMPLES = [
     Call("tally of no word", ["tally"], b" \n", 0, b""),
     Call("tally of a byte above 127", ["tally"], b"z\303\244\n", 0, b"the byte at index 1 is not ASCII\n"),
     Call("tokens", ["tokens"], b'let x_1 = "a\\"b" + 42; # done\n\ty\n', 0, TOKENS),
-    Call("tokens of a text that is not closed", ["tokens"], b'a\n  "b\\"', 0, b"2:3: the text that begins here is not closed\n"),
-    Call("tokens of a control character", ["tokens"], b"a\n\1", 0, b"2:1: no token begins with this character\n"),
+    Call("tokens of a text that is not closed", ["tokens"], b'a\n  "b\\"', 0, b"2:3: expected a quoted text\n"),
+    Call("tokens of a control character", ["tokens"], b"a\n\1", 0, b"2:1: expected a token\n"),
     Call("an input that is not valid UTF-8", ["host"], b"\377\n", 1, b"", ANY),
     Call("no name", [], b"", 64, b"", OF_EXAMPLES),
     Call("an unknown name", ["key"], b"", 64, b"", OF_EXAMPLES),

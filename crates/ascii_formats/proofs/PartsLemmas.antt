@@ -1,7 +1,8 @@
 -- The text between two positions of a text, and what it starts and ends with.
-use Rattle.std.proofs.Common.{◌≡◌, ◌≤◌, ◌↔◌, ℕ, ◌+◌, ◌-◌, List, [], ◌++◌, length, drop, arith, ap}
+use Rattle.std.proofs.Common.{◌≡◌, ◌≤◌, ◌↔◌, ℕ, ◌+◌, ◌-◌, List, [], ◌∷◌, ◌++◌, length, drop, arith, ap}
 use Rattle.std.proofs.Common.{◌∙◌, append_assoc, drop-drop, length-append, length-drop, subst}
-use Rattle.std.specs.List.{slice_range}
+use Rattle.std.specs.List.{flat_map, slice_range}
+use Rattle.std.proofs.lemmas.List.{flat_map_more}
 use Rattle.std.proofs.lemmas.List.{length-take, length-take-le, take_all}
 use Rattle.std.proofs.lemmas.List.Folds.{drop_split}
 use Rattle.std.proofs.Math.Seq.{drop-append_seam}
@@ -11,7 +12,7 @@ use Rattle.ascii.specs.View.{text_of}
 use Rattle.ascii.proofs.CutLemmas.{suffix_fits}
 use Rattle.ascii.proofs.PlacedLemmas.{has_at}
 use Rattle.ascii_formats.specs.declared.parts.Part.{Part}
-use Rattle.ascii_formats.specs.Parts.{part_text}
+use Rattle.ascii_formats.specs.Parts.{IsFollowed, part_text}
 
 -- all of a text
 pub whole_range : (text : List ℕ) → slice_range text 0 (length text) ≡ text
@@ -87,3 +88,20 @@ pub after_cut : (before between after text : List ℕ) → before ++ (between ++
     → EndsWith after text
 after_cut before between after text joined =
     (before ++ between, append_assoc before between after ∙ joined)
+
+-- ---- for parsers that take things from the start of a part, one after the other
+
+-- one more of a list, whose texts come after `front`
+pub followed_more : {A : Type 0} (written : A → List ℕ) (front : List ℕ) (items longer : List A)
+    (item : A) (part middle rest : Part) → longer ≡ items ++ item ∷ []
+    → IsFollowed part (front ++ flat_map written items) middle
+    → IsFollowed middle (written item) rest → IsFollowed part (front ++ flat_map written longer) rest
+followed_more written front items longer item part middle rest same first second =
+    let before = front ++ flat_map written items in
+    rw (same, ← flat_map_more written front items item) (record {
+      joined = append_assoc before (written item) (part_text rest)
+          ∙ ap (λ l. before ++ l) second.joined ∙ first.joined;
+      whole = second.whole ∙ first.whole;
+      start = omega (arith, first.start, second.start, length-append before (written item));
+      end = second.end ∙ first.end;
+    })

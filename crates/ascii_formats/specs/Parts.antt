@@ -1,5 +1,12 @@
 -- Parts of a text, which keep their place in it.
-use Rattle.std.specs.Prelude.{◌≡◌, ℕ, ◌+◌, List, ◌++◌, codes, decimal, length, slice_range}
+use Rattle.std.specs.Prelude.{◌≡◌, ◌≢◌, ◌<◌, ◌≤◌, ◌⊎◌, ⊤, ℕ, ◌+◌, List, [], ◌∷◌, ◌++◌, codes}
+use Rattle.std.specs.Prelude.{decimal, length, slice_range}
+use Rattle.ascii.specs.Code.{code_of}
+use Rattle.ascii.specs.declared.ascii_str.AsciiStr.{AsciiStr}
+use Rattle.ascii_formats.specs.declared.parts.Expected.{Expected}
+use Rattle.ascii_formats.specs.declared.parts.Expected.TheVariants.{Char, Characters, Named, Quoted}
+use Rattle.ascii_formats.specs.declared.parts.ParseError.{ParseError}
+use Rattle.ascii_formats.specs.declared.parts.ParseError.TheVariants.{At, Memory}
 use Rattle.ascii_formats.specs.declared.numbers.NumberError.{NumberError}
 use Rattle.ascii_formats.specs.declared.numbers.NumberError.TheVariants.{Empty, NotDigit, TooLarge}
 use Rattle.ascii_formats.specs.declared.parts.Part.{Part}
@@ -7,7 +14,7 @@ use Rattle.ascii_formats.specs.declared.quotes.QuoteError.{QuoteError}
 use Rattle.ascii_formats.specs.declared.quotes.QuoteError.TheVariants.{NoQuote, NotClosed}
 use Rattle.ascii_formats.specs.Numbers.{IsFaultIn, NumberRange}
 use Rattle.ascii_formats.specs.Quotes.{IsQuoteFault}
-use Rattle.ascii.specs.Trim.{TrimsEnd, TrimsStart}
+use Rattle.ascii.specs.Trim.{IsSpan, TrimsEnd, TrimsStart}
 use Rattle.ascii.specs.View.{debug_text, text_of}
 
 -- the text of `part`: that of its whole from its start to its end
@@ -32,6 +39,40 @@ pub record AreSidesFrom (from width : ℕ) (part : Part) (sides : Part × Part) 
 -- the sides of a cut of `part` that are `width` codes apart
 abbrev pub AreSidesOf : ℕ → Part → Part × Part → Type 0
 AreSidesOf width part sides = AreSidesFrom part.start width part sides
+
+-- `part` is `taken`, followed by `rest`
+pub record IsFollowed (part : Part) (taken : List ℕ) (rest : Part) : Type 0 where
+  pub joined : taken ++ part_text rest ≡ part_text part
+  pub whole : rest.whole ≡ part.whole
+  pub start : rest.start ≡ part.start + length taken
+  pub end : rest.end ≡ part.end
+
+-- `sides` are the codes of the class `Is` at the start of `part`, one at least and at most `most`,
+-- and the rest
+pub record IsTaken (Is : ℕ → Type 0) (most : ℕ) (part : Part) (sides : Part × Part) : Type 0 where
+  pub span : IsSpan Is (part_text part) (part_text sides.0) (part_text sides.1)
+  pub some : part_text sides.0 ≢ []
+  pub short : length (part_text sides.0) ≤ most
+  pub place : AreSidesOf 0 part sides
+  pub followed : IsFollowed part (part_text sides.0) sides.1
+
+-- at the start of `text` are no codes of the class `Is`, or more than `most`
+abbrev pub IsUntakable : (ℕ → Type 0) → ℕ → List ℕ → Type 0
+IsUntakable Is most text = (front : List ℕ) × (rest : List ℕ) × IsSpan Is text front rest
+    × ((front ≡ []) ⊎ (most < length front))
+
+-- the part at fault is a part of `text`
+abbrev pub IsErrorIn : AsciiStr → ParseError → Type 0
+IsErrorIn text (At part expected) = part.whole ≡ text
+IsErrorIn text Memory = ⊤
+
+-- the output of what was expected
+abbrev pub expected_text : Expected → List ℕ
+expected_text (Char ch) = codes "expected '" ++ (code_of ch ∷ codes "'")
+expected_text (Characters most) =
+    codes "expected 1 to " ++ (decimal most ++ codes " characters of a kind")
+expected_text Quoted = codes "expected a quoted text"
+expected_text (Named name) = codes "expected " ++ name.now
 
 -- `new` is what `old` is without leading and trailing codes of the class `Is`, where `old` has it
 pub record IsTrimmed (Is : ℕ → Type 0) (old new : Part) : Type 0 where

@@ -3,6 +3,7 @@
 ghost use Rattle.std.specs.Prelude.{Some};
 
 use crate::numbers::NumberError;
+use crate::parts::Expected;
 use crate::quotes::QuoteError;
 use crate::unescape::UnescapeError;
 use std::error::Error;
@@ -30,6 +31,24 @@ impl fmt::Display for NumberError {
 }
 
 impl Error for NumberError {}
+
+impl fmt::Display for Expected {
+    ghost use Rattle.ascii_formats.specs.Parts.{expected_text};
+
+    ghost output = { λ e. Some (expected_text e) };
+
+    ///     Expected::Char(AsciiChar::Equal).to_string(alloc)? // "expected '='"
+    ///     Expected::Characters(3).to_string(alloc)? // "expected 1 to 3 characters of a kind"
+    ///     Expected::Named("a time").to_string(alloc)? // "expected a time"
+    fn fmt<W: fmt::Write>(&self, f: &mut fmt::Formatter<W>) -> fmt::Result {
+        match self {
+            Expected::Char(ch) => write!(f, "expected '{ch}'"),
+            Expected::Characters(most) => { write!(f, "expected 1 to {most} characters of a kind") }
+            Expected::Quoted => f.write_str("expected a quoted text"),
+            Expected::Named(name) => write!(f, "expected {name}"),
+        }
+    }
+}
 
 impl fmt::Display for QuoteError {
     ghost use Rattle.ascii_formats.specs.Quotes.{quote_error_text};

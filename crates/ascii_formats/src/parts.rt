@@ -7,6 +7,7 @@
 //! | `trim` | the part without the whitespace at its ends |
 //! | `split_once`, `split_at`, `span` | the two sides of a cut |
 //! | `take_some` | the characters of a class at the start, one at least, and the rest |
+//! | `take`, `expect` | such characters up to a number, or a character, and the rest; or an error |
 //! | `strip_prefix`, `strip_prefix_char` | what comes after a prefix |
 //! | `quoted` | a quoted text, and what comes after it |
 //! | `to_number` | a number, or an error with the position in the whole text |
@@ -26,7 +27,7 @@
 //! `l.rest.end - l.rest.start`. Nothing here allocates.
 
 ghost use Rattle.std.specs.Prelude.{◌≡◌, ◌≢◌, ◌<◌, ◌≤◌, ◌↔◌, ◌+◌, ◌-◌, [], ◌∷◌, Some, IfOk};
-ghost use Rattle.std.specs.Prelude.{IfSome, IsTrue, MatchOption, MatchResult, drop, length};
+ghost use Rattle.std.specs.Prelude.{IfSome, IsTrue, MatchOption, MatchResult, OnErr, drop, length};
 ghost use Rattle.std.specs.Prelude.{slice_get, take};
 ghost use Rattle.std.proofs.Props.{props};
 ghost use Rattle.ascii.specs.Class.{IsWhitespace};
@@ -59,9 +60,32 @@ pub struct Part<'a> {
     ghost fits: { (start ≤ end) × (end ≤ length (text_of whole)) } by { Prim.hlevel props },
 }
 
+/// What a parser expected at the start of a part.
+#[derive(Clone, Copy, Debug)]
+pub enum Expected {
+    /// This character.
+    Char(AsciiChar),
+    /// Characters of a class, one at least and at most this number.
+    Characters(usize),
+    /// A quoted text.
+    Quoted,
+    /// Something that has this name.
+    Named(&'static str),
+}
+
+/// Why a parser stopped.
+#[derive(Clone, Copy, Debug)]
+pub enum ParseError<'a> {
+    /// What it expected is not at the start of this part.
+    At(Part<'a>, Expected),
+    /// An allocation failed.
+    Memory,
+}
+
 impl<'a> Part<'a> {
     ghost use Rattle.std.specs.List.{Contains};
-    ghost use Rattle.ascii_formats.specs.Parts.{AreSidesFrom, AreSidesOf, IsFrontTo};
+    ghost use Rattle.ascii_formats.specs.Parts.{AreSidesFrom, AreSidesOf, IsFollowed, IsFrontTo};
+    ghost use Rattle.ascii_formats.specs.Parts.{IsTaken, IsUntakable};
     ghost use Rattle.ascii_formats.specs.Parts.{IsPartFault, IsPartQuoteFault, IsRestFrom};
     ghost use Rattle.ascii_formats.specs.Parts.{IsTrimmed, part_text};
 
@@ -231,6 +255,23 @@ impl<'a> Part<'a> {
         Some(sides)
     }
 
+    /// Returns the characters at the start of the part that are in the class, and the rest, or an error if
+    /// there are none or more than `most`.
+    ///
+    ///     Part::of(AsciiStr::literal("42px")).take::<Digit>(3) // Ok((0..2 "42", 2..4 "px"))
+    ///     Part::of(AsciiStr::literal("42px")).take::<Digit>(1) // Err(At(0..4 "42px", Characters(1)))
+    pub fn take<C: Searched>(self, most: usize) -> Result<(Part<'a>, Part<'a>), ParseError<'a>>
+        ensures taken { MatchResult result (IsTaken C.is most self.entry)
+            (λ error. error ≡ ParseError.At self.entry (Expected.Characters most)) }
+        ensures none { OnErr result (IsUntakable C.is most (part_text self.entry)) }
+    {
+        let (front, rest) = self.span::<C>();
+        if front.is_empty() || front.len() > most {
+            return Err(ParseError::At(self, Expected::Characters(most)));
+        }
+        Ok((front, rest))
+    }
+
     /// Returns the part without `prefix`, or `None` if the part does not start with it.
     ///
     ///     Part::of(AsciiStr::literal("foobar")).strip_prefix(AsciiStr::literal("foo")) // Some(3..6 "bar")
@@ -260,6 +301,21 @@ impl<'a> Part<'a> {
     {
         let rest = self.text().strip_prefix_char(ch)?;
         Some(self.rest(rest))
+    }
+
+    /// Returns the part after `ch`, or an error if the part does not start with it. Constant time.
+    ///
+    ///     Part::of(AsciiStr::literal("#x")).expect(AsciiChar::Hash) // Ok(1..2 "x")
+    ///     Part::of(AsciiStr::literal("x#")).expect(AsciiChar::Hash) // Err(At(0..2 "x#", Char('#')))
+    pub fn expect(self, ch: AsciiChar) -> Result<Part<'a>, ParseError<'a>>
+        ensures followed { MatchResult result (IsFollowed self.entry (code_of ch ∷ []))
+            (λ error. error ≡ ParseError.At self.entry (Expected.Char ch)) }
+        ensures none { OnErr result (¬ (StartsWith (code_of ch ∷ []) (part_text self.entry))) }
+    {
+        match self.strip_prefix_char(ch) {
+            Some(rest) => Ok(rest),
+            None => Err(ParseError::At(self, Expected::Char(ch))),
+        }
     }
 
     /// Returns the text between the quotes at the start of the part, and the part after them, or an

@@ -1,4 +1,3 @@
-pub mod LogLemmas
 pub mod PagerLemmas
 pub mod TallyLemmas
 pub mod TokensLemmas

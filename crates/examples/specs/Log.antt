@@ -1,22 +1,22 @@
 -- Messages of a log in the form of RFC 5424.
-use Rattle.std.specs.Prelude.{ℕ, ◌≡◌, ◌≢◌, ◌<◌, ◌≤◌, ◌⊎◌, ◌^◌, ◌-◌, ◌++◌, ◌∷◌, [], List, ⊤}
-use Rattle.std.specs.Prelude.{MatchResult, codes, length}
+use Rattle.std.specs.Prelude.{ℕ, ◌≡◌, ◌≢◌, ◌≤◌, ◌⊎◌, ◌^◌, ◌-◌, ◌++◌, ◌∷◌, [], List}
+use Rattle.std.specs.Prelude.{MatchResult, None, Ok, Option, Some, codes, length}
 use Rattle.std.specs.declared.result.Result.{Result}
 use Rattle.std.specs.Int.{IsInRange}
 use Rattle.std.specs.List.{All, flat_map}
 use Rattle.ascii.specs.Class.{IsGraphic}
 use Rattle.ascii.specs.Search.{StartsWith}
-use Rattle.ascii.specs.declared.ascii_str.AsciiStr.{AsciiStr}
 use Rattle.ascii_formats.specs.Numbers.{WritesNumber}
-use Rattle.ascii_formats.specs.Parts.{part_text}
+use Rattle.ascii_formats.specs.Parts.{IsErrorIn, IsFollowed, part_text}
 use Rattle.ascii_formats.specs.Quotes.{Quotable}
+use Rattle.ascii_formats.specs.declared.parts.ParseError.{ParseError}
 use Rattle.ascii_formats.specs.declared.parts.Part.{Part}
 use Rattle.examples.specs.declared.syslog.Element.{Element}
-use Rattle.examples.specs.declared.syslog.LogError.{LogError}
-use Rattle.examples.specs.declared.syslog.LogError.TheVariants.{At, Memory}
 use Rattle.examples.specs.declared.syslog.Message.{Message}
 use Rattle.examples.specs.declared.syslog.Number.{Number}
 use Rattle.examples.specs.declared.syslog.Param.{Param}
+use Rattle.jiff.specs.Words.{parse_timestamp}
+use Rattle.jiff.specs.declared.timestamp.Timestamp.{Timestamp}
 
 -- a code that a name may contain: a visible one other than `"`, `=` and `]`
 abbrev pub IsNameCode : ℕ → Type 0
@@ -34,6 +34,11 @@ pub record IsField (Is : ℕ → Type 0) (most : ℕ) (part : Part) : Type 0 whe
   pub some : part_text part ≢ []
   pub short : length (part_text part) ≤ most
   pub within : All Is (part_text part)
+
+-- the instant that jiff reads in `text`, in nanoseconds from 1970 on; none if `text` is `-`
+abbrev pub IsInstant : List ℕ → Option Timestamp → Type 0
+IsInstant text None = text ≡ codes "-"
+IsInstant text (Some instant) = parse_timestamp text ≡ Ok instant.nanosecond
 
 -- a parameter has a name and a quotable value
 pub record IsParam (param : Param) : Type 0 where
@@ -73,6 +78,7 @@ pub record IsMessage (line : List ℕ) (message : Message) : Type 0 where
   pub priority : IsNumber 191 message.priority
   pub version : IsNumber 999 message.version
   pub time : IsField IsGraphic 32 message.time
+  pub instant : IsInstant (part_text message.time) message.instant
   pub host : IsField IsGraphic 255 message.host
   pub app : IsField IsGraphic 48 message.app
   pub process : IsField IsGraphic 128 message.process
@@ -80,23 +86,11 @@ pub record IsMessage (line : List ℕ) (message : Message) : Type 0 where
   pub elements : AreElements message.elements.items
   pub text : (part_text message.text ≡ []) ⊎ StartsWith (codes " ") (part_text message.text)
 
--- the part at fault is a part of `line`
-abbrev pub IsErrorIn : AsciiStr → LogError → Type 0
-IsErrorIn line (At part what) = part.whole ≡ line
-IsErrorIn line Memory = ⊤
-
 -- ---- cited by private functions only
-
--- `part` is `taken`, which is not empty, followed by `rest`
-pub record IsFollowed (part : Part) (taken : List ℕ) (rest : Part) : Type 0 where
-  pub joined : taken ++ part_text rest ≡ part_text part
-  pub whole : rest.whole ≡ part.whole
-  pub start : part.start < rest.start
-  pub end : rest.end ≡ part.end
 
 -- `Ok`: something of which `Is` is true, written at the start of `part`, and the rest of `part`.
 -- `Err`: the part at fault is a part of the same text
-abbrev pub Takes : {T : Type 0} → (T → Type 0) → (T → List ℕ) → Part → Result (T × Part) LogError
+abbrev pub Takes : {T : Type 0} → (T → Type 0) → (T → List ℕ) → Part → Result (T × Part) ParseError
     → Type 0
 Takes Is written part result = MatchResult result
     (λ taken. Is taken.0 × IsFollowed part (written taken.0) taken.1) (IsErrorIn part.whole)

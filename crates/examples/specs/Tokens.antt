@@ -6,14 +6,14 @@ use Rattle.ascii.specs.Class.{IsAlphanumeric, IsDigit, IsPunctuation, IsWhitespa
 use Rattle.ascii.specs.declared.ascii_str.AsciiStr.{AsciiStr}
 use Rattle.ascii_formats.specs.Parts.{part_text}
 use Rattle.ascii_formats.specs.Quotes.{Quotable, StartsQuoted}
+use Rattle.ascii_formats.specs.declared.parts.Expected.TheVariants as expected
+use Rattle.ascii_formats.specs.declared.parts.ParseError.{ParseError}
+use Rattle.ascii_formats.specs.declared.parts.ParseError.TheVariants.{At, Memory}
 use Rattle.ascii_formats.specs.declared.parts.Part.{Part}
 use Rattle.examples.specs.declared.tokens.Kind.{Kind}
 use Rattle.examples.specs.declared.tokens.Kind.TheVariants.{Comment, Mark, Number, Quoted}
 use Rattle.examples.specs.declared.tokens.Kind.TheVariants.{Space, Word}
 use Rattle.examples.specs.declared.tokens.Token.{Token}
-use Rattle.examples.specs.declared.tokens.TokenError.{TokenError}
-use Rattle.examples.specs.declared.tokens.TokenError.TheVariants.{At, Memory}
-use Rattle.examples.specs.declared.tokens.What.TheVariants.{Character, NotClosed}
 
 -- a code that a word may contain: a letter, a digit or `_`
 abbrev pub IsWordCode : ℕ → Type 0
@@ -64,11 +64,11 @@ pub record IsTokenOf (text : AsciiStr) (token : Token) : Type 0 where
   pub whole : token.part.whole ≡ text
   pub body : IsOf token.kind (part_text token.part)
 
--- why no token is at the start of a part of `text`. `NotClosed`: no quoted text is.
-abbrev pub IsErrorOf : AsciiStr → TokenError → Type 0
-IsErrorOf text (At part Character) = part.whole ≡ text
-IsErrorOf text (At part NotClosed) = (part.whole ≡ text)
+-- why no token is at the start of a part of `text`. `Quoted`: no quoted text is.
+abbrev pub IsErrorOf : AsciiStr → ParseError → Type 0
+IsErrorOf text (At part expected.Quoted) = (part.whole ≡ text)
     × ((inside : List ℕ) → (rest : List ℕ) → ¬ (StartsQuoted 34 92 (part_text part) inside rest))
+IsErrorOf text (At part other) = part.whole ≡ text
 IsErrorOf text Memory = ⊤
 
 -- ---- cited by private functions only

@@ -1,22 +1,21 @@
 //! Prints what each line of a log in the form of RFC 5424 says, or the column at which it is at fault.
 #![tactic(auto)]
 
-ghost use Rattle.std.specs.Prelude.{◌∷◌, [], MatchResult};
+ghost use Rattle.std.specs.Prelude.{◌≡◌, ◌∷◌, [], IfOk, MatchResult};
 ghost use Rattle.std.proofs.Common.{rules};
 ghost use Rattle.ascii.specs.Code.{code_of};
 ghost use Rattle.ascii.specs.View.{text_of};
-ghost use Rattle.ascii_formats.specs.Parts.{part_text};
-ghost use Rattle.examples.specs.Log.{AreElements, IsElement, IsErrorIn, IsField, IsFollowed};
-ghost use Rattle.examples.specs.Log.{IsMessage, IsNumber, IsParam, Takes, data_text, element_text};
-ghost use Rattle.examples.specs.Log.{param_text};
+ghost use Rattle.ascii_formats.specs.Parts.{IsErrorIn, part_text};
+ghost use Rattle.examples.specs.Log.{AreElements, IsElement, IsField, IsInstant, IsMessage};
+ghost use Rattle.examples.specs.Log.{IsNumber, IsParam, Takes, data_text, element_text, param_text};
 
 use ascii::classes::{ByRanges, Digit, Graphic, Ranges, Searched};
 use ascii::{AsciiChar, AsciiStr, text};
 use ascii_formats::AsciiStrExt;
-use ascii_formats::parts::Part;
+use ascii_formats::parts::{Expected, ParseError, Part};
+use jiff::Timestamp;
 use std::alloc::Global;
 use std::io::{self, Read};
-use thiserror::Error;
 
 /// Digits, and the number that they write.
 #[derive(Clone, Copy)]
@@ -39,12 +38,14 @@ pub struct Element<'a> {
     pub params: Vec<Param<'a>>,
 }
 
-/// A message. A field that is not known is `-`. The text has the space before it.
+/// A message. A field that is not known is `-`; the instant is that of the time, if it is known. The text has the
+/// space before it.
 #[derive(Drop)]
 pub struct Message<'a> {
     pub priority: Number<'a>,
     pub version: Number<'a>,
     pub time: Part<'a>,
+    pub instant: Option<Timestamp>,
     pub host: Part<'a>,
     pub app: Part<'a>,
     pub process: Part<'a>,
@@ -53,28 +54,8 @@ pub struct Message<'a> {
     pub text: Part<'a>,
 }
 
-/// What is wrong with a line.
-#[derive(Clone, Copy, Debug, Error)]
-pub enum What {
-    #[error("another character belongs here")]
-    Character,
-    #[error("not a number that may be here")]
-    Number,
-    #[error("not a field")]
-    Field,
-    #[error("not a quoted value")]
-    Quote,
-}
-
-/// Why a line is not a message: the part at whose start it is at fault, or a lack of memory.
-#[derive(Clone, Copy)]
-pub enum LogError<'a> {
-    At(Part<'a>, What),
-    Memory,
-}
-
 /// What is taken from the start of a part, and the rest of the part.
-pub type Taken<'a, T> = Result<(T, Part<'a>), LogError<'a>>;
+pub type Taken<'a, T> = Result<(T, Part<'a>), ParseError<'a>>;
 
 pub struct NameRanges;
 
@@ -99,24 +80,28 @@ impl Ranges for NameRanges {
 pub type Name = ByRanges<NameRanges>;
 
 /// Returns the message that a line without its ending says, or the part of it that is at fault.
-pub fn read_message<'a>(alloc: Global, line: AsciiStr<'a>) -> Result<Message<'a>, LogError<'a>>
+pub fn read_message<'a>(alloc: Global, line: AsciiStr<'a>) -> Result<Message<'a>, ParseError<'a>>
     ensures { MatchResult result (IsMessage (text_of line.entry)) (IsErrorIn line.entry) }
 {
-    let (priority, rest) = take_digits(Part::of(line), AsciiChar::LessThan, 191)?;
-    let (version, rest) = take_digits(rest, AsciiChar::GreaterThan, 999)?;
+    let (priority, rest) = take_number(Part::of(line), AsciiChar::LessThan, 191)?;
+    let (version, rest) = take_number(rest, AsciiChar::GreaterThan, 999)?;
     let (time, rest) = take_field::<Graphic>(rest, AsciiChar::Space, 32)?;
+    let Ok(instant) = read_instant(time.text()) else {
+        return Err(ParseError::At(time, Expected::Named("a time")));
+    };
     let (host, rest) = take_field::<Graphic>(rest, AsciiChar::Space, 255)?;
     let (app, rest) = take_field::<Graphic>(rest, AsciiChar::Space, 48)?;
     let (process, rest) = take_field::<Graphic>(rest, AsciiChar::Space, 128)?;
     let (id, rest) = take_field::<Graphic>(rest, AsciiChar::Space, 32)?;
-    let (elements, text) = take_data(alloc, take_char(rest, AsciiChar::Space)?)?;
-    if !text.is_empty() && !text.text().starts_with_char(AsciiChar::Space) {
-        return Err(LogError::At(text, What::Character));
+    let (elements, text) = take_data(alloc, rest.expect(AsciiChar::Space)?)?;
+    if !text.is_empty() {
+        text.expect(AsciiChar::Space)?;
     }
     Ok(Message {
         priority,
         version,
         time,
+        instant,
         host,
         app,
         process,
@@ -126,38 +111,35 @@ pub fn read_message<'a>(alloc: Global, line: AsciiStr<'a>) -> Result<Message<'a>
     })
 }
 
-/// Takes a character.
-fn take_char<'a>(rest: Part<'a>, ch: AsciiChar) -> Result<Part<'a>, LogError<'a>>
-    ensures { MatchResult result (IsFollowed rest.entry (code_of ch ∷ []))
-        (IsErrorIn rest.entry.whole) }
+/// Takes a character, and after it up to `most` characters of a class, and one at least.
+fn take_field<'a, C: Searched>(rest: Part<'a>, mark: AsciiChar, most: usize) -> Taken<'a, Part<'a>>
+    ensures taken { Takes (IsField C.is most) (λ field. code_of mark ∷ part_text field)
+        rest.entry result }
+    ensures whole { IfOk result (λ taken. taken.0.whole ≡ rest.entry.whole) }
 {
-    rest.strip_prefix_char(ch)
-        .ok_or(LogError::At(rest, What::Character))
+    rest.expect(mark)?.take::<C>(most)
 }
 
 /// Takes a character, and after it up to three digits that write a number up to `most`.
-fn take_digits<'a>(rest: Part<'a>, mark: AsciiChar, most: u16) -> Taken<'a, Number<'a>>
+fn take_number<'a>(rest: Part<'a>, mark: AsciiChar, most: u16) -> Taken<'a, Number<'a>>
     ensures { Takes (IsNumber most) (λ number. code_of mark ∷ part_text number.digits)
         rest.entry result }
 {
-    let start = take_char(rest, mark)?;
-    let (digits, after) = start.span::<Digit>();
+    let (digits, after) = take_field::<Digit>(rest, mark, 3)?;
     match digits.to_number::<u16>() {
-        Ok(value) if digits.len() <= 3 && value <= most => Ok((Number { digits, value }, after)),
-        _ => Err(LogError::At(start, What::Number)),
+        Ok(value) if value <= most => Ok((Number { digits, value }, after)),
+        _ => Err(ParseError::At(digits, Expected::Named("a smaller number"))),
     }
 }
 
-/// Takes a character, and after it up to `most` characters of a class, and one at least.
-fn take_field<'a, C: Searched>(rest: Part<'a>, mark: AsciiChar, most: usize) -> Taken<'a, Part<'a>>
-    ensures { Takes (IsField C.is most) (λ field. code_of mark ∷ part_text field)
-        rest.entry result }
+/// Returns the instant of a time, or `None` if that is `-`.
+fn read_instant(time: AsciiStr<'_>) -> Result<Option<Timestamp>, jiff::Error>
+    ensures { IfOk result (IsInstant (text_of time.entry)) }
 {
-    let start = take_char(rest, mark)?;
-    match start.take_some::<C>() {
-        Some((field, after)) if field.len() <= most => Ok((field, after)),
-        _ => Err(LogError::At(start, What::Field)),
+    if time.eq_bytes(b"-") {
+        return Ok(None);
     }
+    Ok(Some(time.as_str().parse::<Timestamp>()?))
 }
 
 /// Takes the structured data: `-`, or elements with nothing between.
@@ -165,16 +147,14 @@ fn take_data<'a>(alloc: Global, start: Part<'a>) -> Taken<'a, Vec<Element<'a>>>
     ensures { Takes (λ elements. AreElements elements.items) (λ elements. data_text elements.items)
         start.entry result }
 {
-    let mut elements = Vec::new(alloc);
-    if let Some(rest) = start.strip_prefix_char(AsciiChar::Minus) {
-        return Ok((elements, rest));
-    }
-    let (first, mut rest) = take_element(alloc, start)?;
-    elements.push(first).map_err(|_| LogError::Memory)?;
+    let (mut elements, mut rest) = (Vec::new(alloc), start);
     'elements: while rest.text().starts_with_char(AsciiChar::BracketOpen) {
         let (element, after) = take_element(alloc, rest)?;
-        elements.push(element).map_err(|_| LogError::Memory)?;
+        elements.push(element).map_err(|_| ParseError::Memory)?;
         rest = after;
+    }
+    if elements.is_empty() {
+        rest = start.expect(AsciiChar::Minus)?;
     }
     Ok((elements, rest))
 }
@@ -187,11 +167,13 @@ fn take_element<'a>(alloc: Global, start: Part<'a>) -> Taken<'a, Element<'a>>
     let mut params = Vec::new(alloc);
     'params: while rest.text().starts_with_char(AsciiChar::Space) {
         let (param, after) = take_param(rest)?;
-        params.push(param).map_err(|_| LogError::Memory)?;
+        params.push(param).map_err(|_| ParseError::Memory)?;
         rest = after;
     }
-    let rest = take_char(rest, AsciiChar::BracketClose)?;
-    Ok((Element { id, params }, rest))
+    Ok((
+        Element { id, params },
+        rest.expect(AsciiChar::BracketClose)?,
+    ))
 }
 
 /// Takes a parameter, ` name="value"`.
@@ -199,28 +181,26 @@ fn take_param<'a>(start: Part<'a>) -> Taken<'a, Param<'a>>
     ensures { Takes IsParam param_text start.entry result }
 {
     let (name, rest) = take_field::<Name>(start, AsciiChar::Space, 32)?;
-    let quoted = take_char(rest, AsciiChar::Equal)?;
+    let quoted = rest.expect(AsciiChar::Equal)?;
     match quoted.quoted(AsciiChar::Quotation, AsciiChar::BackSlash) {
         Ok((value, rest)) => Ok((Param { name, value }, rest)),
-        Err(_) => Err(LogError::At(quoted, What::Quote)),
+        Err(_) => Err(ParseError::At(quoted, Expected::Quoted)),
     }
 }
 
 /// Prints the parts of a message.
 fn show(rt: &HostRuntime, message: &Message<'_>) -> io::Result<()> {
-    let (time, host, app) = (message.time.text(), message.host.text(), message.app.text());
-    println!(rt;
-        "{} {time} {host} {app}:{}",
-        message.priority.value,
-        message.text.text()
-    )?;
+    let (host, app, text) = (message.host.text(), message.app.text(), message.text.text());
+    match message.instant {
+        Some(instant) => print!(rt; "{} {instant}", message.priority.value)?,
+        None => print!(rt; "{} -", message.priority.value)?,
+    }
+    println!(rt; " {host} {app}:{text}")?;
     for element in &message.elements {
         println!(rt; "- {}", element.id.text())?;
         for param in &element.params {
-            let value = param
-                .value
-                .text()
-                .unquote(rt.alloc(), AsciiChar::BackSlash)?;
+            let quoted = param.value.text();
+            let value = quoted.unquote(rt.alloc(), AsciiChar::BackSlash)?;
             println!(rt; "  {}: {value}", param.name.text())?;
         }
     }
@@ -237,8 +217,8 @@ pub fn main(rt: HostRuntime) -> io::Result<()> {
     for line in view.lines() {
         match read_message(rt.alloc(), line) {
             Ok(message) => show(&rt, &message)?,
-            Err(LogError::At(part, what)) => println!(rt; "column {}: {what}", part.start + 1)?,
-            Err(LogError::Memory) => println!(rt; "no memory")?,
+            Err(ParseError::At(part, what)) => println!(rt; "column {}: {what}", part.start + 1)?,
+            Err(ParseError::Memory) => println!(rt; "no memory")?,
         }
     }
     Ok(())

@@ -12,10 +12,9 @@ ghost use Rattle.examples.specs.Tokens.{AreLaid, IsErrorOf, IsTaken, IsTokenOf, 
 use ascii::classes::{ByRanges, Digit, Punctuation, Ranges, Whitespace};
 use ascii::{AsciiChar, AsciiStr, text};
 use ascii_formats::AsciiStrExt;
-use ascii_formats::parts::Part;
+use ascii_formats::parts::{Expected, ParseError, Part};
 use std::alloc::Global;
 use std::io::{self, Read};
-use thiserror::Error;
 
 /// What a token is.
 #[derive(Clone, Copy, PartialEq, Eq, Debug)]
@@ -39,22 +38,6 @@ pub enum Kind {
 pub struct Token<'a> {
     pub kind: Kind,
     pub part: Part<'a>,
-}
-
-/// Why no token is at the start of a text.
-#[derive(Clone, Copy, Debug, Error)]
-pub enum What {
-    #[error("no token begins with this character")]
-    Character,
-    #[error("the text that begins here is not closed")]
-    NotClosed,
-}
-
-/// Why a text has no tokens: the part at whose start none is, or a lack of memory.
-#[derive(Clone, Copy)]
-pub enum TokenError<'a> {
-    At(Part<'a>, What),
-    Memory,
 }
 
 pub struct WordRanges;
@@ -102,7 +85,7 @@ impl Ranges for LineRanges {
 pub type Line = ByRanges<LineRanges>;
 
 /// Returns the tokens of a text, in order, or the part of the text at whose start there is none.
-pub fn read_tokens<'a>(alloc: Global, text: AsciiStr<'a>) -> Result<Vec<Token<'a>>, TokenError<'a>>
+pub fn read_tokens<'a>(alloc: Global, text: AsciiStr<'a>) -> Result<Vec<Token<'a>>, ParseError<'a>>
     ensures joined { IfOk result (λ tokens. flat_map token_text tokens.items ≡ text_of text.entry) }
     ensures tokens { IfOk result (λ tokens. All (IsTokenOf text.entry) tokens.items) }
     ensures places { IfOk result (λ tokens.
@@ -113,14 +96,14 @@ pub fn read_tokens<'a>(alloc: Global, text: AsciiStr<'a>) -> Result<Vec<Token<'a
     let mut rest = Part::of(text);
     'tokens: while !rest.is_empty() {
         let (token, after) = take_token(rest)?;
-        tokens.push(token).map_err(|_| TokenError::Memory)?;
+        tokens.push(token).map_err(|_| ParseError::Memory)?;
         rest = after;
     }
     Ok(tokens)
 }
 
 /// Takes a token from the start of a text that is not empty.
-fn take_token<'a>(text: Part<'a>) -> Result<(Token<'a>, Part<'a>), TokenError<'a>>
+fn take_token<'a>(text: Part<'a>) -> Result<(Token<'a>, Part<'a>), ParseError<'a>>
     requires { part_text text ≢ [] }
     ensures { MatchResult result (IsTaken text.entry) (IsErrorOf text.entry.whole) }
 {
@@ -143,7 +126,7 @@ fn take_token<'a>(text: Part<'a>) -> Result<(Token<'a>, Part<'a>), TokenError<'a
 }
 
 /// Takes a comment or a punctuation mark from the start of a text that is not empty.
-fn take_mark<'a>(text: Part<'a>) -> Result<(Token<'a>, Part<'a>), TokenError<'a>>
+fn take_mark<'a>(text: Part<'a>) -> Result<(Token<'a>, Part<'a>), ParseError<'a>>
     requires { part_text text ≢ [] }
     ensures { MatchResult result (IsTaken text.entry) (IsErrorOf text.entry.whole) }
 {
@@ -155,11 +138,11 @@ fn take_mark<'a>(text: Part<'a>) -> Result<(Token<'a>, Part<'a>), TokenError<'a>
     if part.text().is_all::<Punctuation>() {
         return Ok((Token { kind, part }, rest));
     }
-    Err(TokenError::At(text, What::Character))
+    Err(ParseError::At(text, Expected::Named("a token")))
 }
 
 /// Takes a quoted text from the start of a text.
-fn take_quoted<'a>(text: Part<'a>) -> Result<(Token<'a>, Part<'a>), TokenError<'a>>
+fn take_quoted<'a>(text: Part<'a>) -> Result<(Token<'a>, Part<'a>), ParseError<'a>>
     ensures { MatchResult result (IsTaken text.entry) (IsErrorOf text.entry.whole) }
 {
     match text.quoted(AsciiChar::Quotation, AsciiChar::BackSlash) {
@@ -167,7 +150,7 @@ fn take_quoted<'a>(text: Part<'a>) -> Result<(Token<'a>, Part<'a>), TokenError<'
             let kind = Kind::Quoted;
             Ok((Token { kind, part }, rest))
         }
-        Err(_) => Err(TokenError::At(text, What::NotClosed)),
+        Err(_) => Err(ParseError::At(text, Expected::Quoted)),
     }
 }
 
@@ -188,7 +171,7 @@ pub fn main(rt: HostRuntime) -> io::Result<()> {
             }
             Ok(())
         }
-        Err(TokenError::At(part, what)) => println!(rt; "{}", part.fault(what)),
-        Err(TokenError::Memory) => println!(rt; "no memory"),
+        Err(ParseError::At(part, what)) => println!(rt; "{}", part.fault(what)),
+        Err(ParseError::Memory) => println!(rt; "no memory"),
     }
 }

@@ -1,7 +1,7 @@
 use Rattle.std.proofs.Common.{◌-◌, ◌∷◌, ◌++◌, All}
 use Rattle.std.specs.List.{flat_map}
-use Rattle.ascii_formats.specs.Parts.{part_text}
-use Rattle.examples.specs.Log.{IsFollowed, IsParam, param_text}
+use Rattle.ascii_formats.specs.Parts.{IsFollowed, part_text}
+use Rattle.examples.specs.Log.{IsParam, param_text}
 use Rattle.examples.proofs.syslog.take_element.Given as goal
 
 abbrev pub invariant-params : goal.invariant-params
