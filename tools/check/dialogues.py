@@ -225,14 +225,14 @@ class SendsMail(unittest.TestCase):
 
 
 class StoresMail(unittest.TestCase):
-    """Mails that a folder stores, or can't store: a row has the folders that are there, what the session sends after its
-    greeting and gets, and the texts of the files in `new`, in the order of their names."""
+    """Mails that a folder stores, or can't store: a row has what is removed of the folder after the greeting, what the session sends
+    then and gets, and the texts of the files in `new`, in the order of their names. No draft is left."""
 
     BAD_MAIL = BEGUN[0] + b"caf\xe9\r\n.\r\n"
     TWO = BEGUN[0] + b"one\r\n..\r\n\r\n.\r\n" + BAD_MAIL + BEGUN[0] + b"two\n\r\n.\r\n" + BEGUN[0] + b"three\r\n.\r\n"
     SAID = BEGUN[1] + OK + (BEGUN[1] + b"554 bad message\r\n") * 2 + BEGUN[1]
     ROWS = [
-        (["tmp", "new"], TWO, SAID + OK, [b"one\r\n.\r\n\r\n", b"three\r\n"]),
+        ([], TWO, SAID + OK, [b"one\r\n.\r\n\r\n", b"three\r\n"]),
         (["tmp"], BEGUN[0] + b"one\r\n.\r\nNOOP\r\n", BEGUN[1] + b"451 not stored\r\n" + OK, []),
         (["new"], BEGUN[0] + b"one\r\n.\r\nNOOP\r\n", BEGUN[1] + b"451 not stored\r\n" + OK, []),
     ]
@@ -241,18 +241,34 @@ class StoresMail(unittest.TestCase):
         return "example_smtp: mails in a folder"
 
     def runTest(self):
-        for folders, sent, wanted, texts in self.ROWS:
-            with tempfile.TemporaryDirectory() as folder:
-                for name in folders:
-                    (Path(folder) / name).mkdir()
-                client, server = socket.socketpair()
+        for removed, sent, wanted, texts in self.ROWS:
+            with tempfile.TemporaryDirectory() as top:
+                folder, (client, server) = Path(top) / "mail", socket.socketpair()
                 with start("example_smtp", server, folder), client:
                     server.close()
                     client.settimeout(WAIT)
+                    self.assertEqual(received(client, len(HELLO[1])), HELLO[1])
+                    for name in removed:
+                        (folder / name).rmdir()
                     client.sendall(sent)
                     client.shutdown(socket.SHUT_WR)
-                    self.assertEqual(received(client, 1 << 16), HELLO[1] + wanted, folders)
-                self.assertEqual([it.read_bytes() for it in sorted((Path(folder) / "new").glob("*"))], texts, folders)
+                    self.assertEqual(received(client, 1 << 16), wanted, removed)
+                self.assertEqual([it.read_bytes() for it in sorted((folder / "new").glob("*"))], texts, removed)
+                self.assertEqual([it.name for it in sorted(folder.iterdir())], sorted({"cur", "new", "tmp"} - {*removed}))
+                self.assertEqual(list((folder / "tmp").glob("*")), [])
+
+
+class RejectsFolder(unittest.TestCase):
+    """A folder that cannot be used: a line on standard error, status 73, and no greeting."""
+
+    def __str__(self):
+        return "example_smtp: a folder that cannot be used"
+
+    def runTest(self):
+        program = TOP / "crates/example_smtp/out/example_smtp"
+        got = subprocess.run([program, "/dev/null"], input=b"", capture_output=True, timeout=WAIT)
+        self.assertEqual((got.returncode, got.stdout), (73, b""))
+        self.assertRegex(got.stderr, b"^/dev/null: .+\n$")
 
 
 class StoresInOrder(unittest.TestCase):
@@ -267,8 +283,6 @@ class StoresInOrder(unittest.TestCase):
 
     def runTest(self):
         with tempfile.TemporaryDirectory() as folder, tempfile.TemporaryFile() as sent, tempfile.TemporaryFile() as said:
-            for name in ("tmp", "new"):
-                (Path(folder) / name).mkdir()
             sent.write((BEGUN[0] + self.TEXT + b".\r\n") * self.MAILS)
             sent.seek(0)
             program = TOP / "crates/example_smtp/out/example_smtp"
@@ -277,7 +291,7 @@ class StoresInOrder(unittest.TestCase):
             except OSError as why:
                 self.skipTest(f"processes cannot be traced here: {why}")
         steps = self.steps(calls, folder)
-        stored = ["create tmp", self.TEXT, "sync tmp", "rename tmp new", "sync new", "reply"]
+        stored = ["create tmp", self.TEXT, "sync tmp", "link tmp new", "sync new", "unlink tmp", "reply"]
         self.assertEqual(steps[steps.index("create tmp"):], stored * self.MAILS)
 
     @staticmethod
@@ -353,7 +367,7 @@ class Runs(unittest.TestCase):
 
 
 def tests():
-    return [*map(Talks, DIALOGUES), SendsMail(), StoresMail(), StoresInOrder(), *map(Runs, COMMANDS)]
+    return [*map(Talks, DIALOGUES), SendsMail(), StoresMail(), RejectsFolder(), StoresInOrder(), *map(Runs, COMMANDS)]
 
 
 def faults(names=()):

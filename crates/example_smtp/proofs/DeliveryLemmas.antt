@@ -1,922 +1,446 @@
--- The messages that a session delivers, exchange by exchange.
-use Rattle.std.proofs.Common.{◌≡◌, ◌≢◌, ◌⊎◌, ◌∙◌, ◌+◌, ◌*◌, ◌≤◌, ℕ, None, Option, Some}
-use Rattle.std.proofs.Common.{List, [], ◌∷◌, ◌++◌, Bool, Err, Ok, Result, ap, false, true}
-use Rattle.std.proofs.Common.{append-nil, append_assoc, arith, inl, inr, length, length-append}
-use Rattle.std.proofs.Common.{lit≤, map, refl, subst, sym}
-use Rattle.std.proofs.lemmas.List.{length-map, map-append}
-use Rattle.std.proofs.lemmas.List.Elements.{All-append, All-cons, All-nil}
+-- The messages that a session delivers, step by step.
+use Rattle.std.proofs.Common.{◌≡◌, ◌≢◌, ◌∙◌, ℕ, None, Option, Some, List, [], ◌∷◌, ◌++◌, Err, Ok, Result}
+use Rattle.std.proofs.Common.{ap, append-nil, inl, inr, refl, subst, sym}
+use Rattle.std.proofs.lemmas.List.{map-append}
 use Rattle.std.proofs.lemmas.Grind.{flat_map-append}
-use Rattle.std.specs.List.{AllZip, flat_map}
-use Rattle.std.specs.Prelude.{All, MatchResult, codes}
-use Rattle.ascii.specs.Case.{lower_image}
-use Rattle.ascii_lines.specs.Replies.{Step, line_reply, sent_out, skipped, took}
-use Rattle.ascii_lines.proofs.TurnsLemmas.{over_ends}
-use Rattle.ascii_lines.specs.Turns.{IsTurnAt, Place, Turns, awaited_by}
-use Rattle.ascii_lines.specs.declared.conversation.Supply.{Supply}
-use Rattle.ascii_lines.specs.declared.serving.Stop.TheVariants as stop
-use Rattle.ascii_lines.specs.declared.conversation.Awaited.{Awaited}
-use Rattle.ascii_lines.specs.declared.conversation.Awaited.TheVariants.{Input, LineEnd, Nothing}
-use Rattle.ascii_lines.specs.declared.conversation.Awaited.TheVariants.{Sending}
+use Rattle.std.specs.Prelude.{MatchResult, codes}
+use Rattle.ascii.specs.Lines.{Line}
+use Rattle.ascii.specs.declared.iter.spans.Endings.{Endings}
+use Rattle.ascii_devices.specs.declared.log.Event.{Event}
+use Rattle.ascii_lines.proofs.SendingLemmas.{AtEachSending-after, sends_first}
 use Rattle.ascii_lines.specs.Replies as serve
+use Rattle.ascii_lines.specs.Replies.{Step, rejected, sent_out, skipped, took}
+use Rattle.ascii_lines.specs.Serve.{AreSentFirst, AtEachSending, ChannelState}
+use Rattle.ascii_lines.specs.Turns.{IsTurnAt, Place, Turns, awaited_by}
+use Rattle.ascii_lines.specs.declared.conversation.Awaited.{Awaited}
+use Rattle.ascii_lines.specs.declared.conversation.Awaited.TheVariants.{Input, LineEnd}
+use Rattle.ascii_lines.specs.declared.conversation.Awaited.TheVariants.{Sending}
+use Rattle.ascii_lines.specs.declared.conversation.Supply.{Supply}
 use Rattle.ascii_lines.specs.declared.line_reader.LineError.{LineError}
 use Rattle.ascii_lines.specs.declared.line_reader.LineError.TheVariants as error
-use Rattle.ascii_lines.specs.declared.serving.Next.TheVariants as next
-use Rattle.ascii.specs.declared.iter.spans.Endings.{Endings}
-use Rattle.ascii_lines.specs.declared.serving.Next.{Next}
-use Rattle.example_smtp.specs.Commands.{IsFault, ReadsCommand, Says, name_of, reply_line}
-use Rattle.example_smtp.specs.Deliveries.{AreExchanges, Delivers, Exchange, GivesUp, Group, HasFault, unstored}
-use Rattle.example_smtp.specs.Deliveries.{IsGroup, IsLast, IsOutside, IsText, answered, dropped}
-use Rattle.example_smtp.specs.Deliveries.{group_exchanges, group_messages, message, received_texts, single}
-use Rattle.example_smtp.specs.Deliveries.{session_answers, session_refuses, unanswered}
-use Rattle.example_smtp.specs.Mail.{IsFresh, Mail, State, Unstuffs}
-use Rattle.example_smtp.specs.Mail.{text_of_lines}
-use Rattle.example_smtp.specs.Session.{Answers, AnswersAt, AnswersCommand, AnswersLine, CarriesOut}
-use Rattle.example_smtp.specs.Mailbox.{Files, Stores}
-use Rattle.example_smtp.proofs.MailboxLemmas.{files_failed, files_none, files_stored}
-use Rattle.example_smtp.specs.declared.files.FileEvent.{FileEvent}
-use Rattle.example_smtp.specs.Session.{EndsAs, IsReady}
-use Rattle.example_smtp.specs.Session.{EndsBy, Follows, Keeps, Refuses, RefusesAt, Rejects}
-use Rattle.example_smtp.specs.Session.{TakesLine, after, or_rejected, refusal_of, reply_of_fault}
-use Rattle.example_smtp.specs.Session.{reply_to, reset_stage}
+use Rattle.example_smtp.proofs.FolderLemmas.{in_none, in_then}
+use Rattle.example_smtp.specs.Commands.{ReadsCommand}
+use Rattle.example_smtp.specs.Deliveries.{AreExchanges, Brings, Delivers, Exchange, IsText, Sent}
+use Rattle.example_smtp.specs.Deliveries.{begun_after, ends, part_of}
+use Rattle.example_smtp.specs.Folder.{StoresIn}
+use Rattle.example_smtp.specs.Mail.{State, text_of_lines, unstuffed}
+use Rattle.example_smtp.specs.Session.{AnswersAt, AnswersCommand, AnswersInput, AnswersLine, Ends}
+use Rattle.example_smtp.specs.Session.{Follows, RefusesAt, TakesLine, after, next_after}
+use Rattle.example_smtp.specs.Session.{or_rejected, refusal_of, reply_of_fault, reply_to}
+use Rattle.example_smtp.specs.Session.{reset_stage, session_answers, session_refuses}
 use Rattle.example_smtp.specs.declared.commands.Command.{Command}
 use Rattle.example_smtp.specs.declared.commands.Command.TheVariants.{AddRecipient, BeginLines}
 use Rattle.example_smtp.specs.declared.commands.Command.TheVariants.{Introduce, Leave, Reset}
 use Rattle.example_smtp.specs.declared.commands.Command.TheVariants.{SetSender, Verify}
 use Rattle.example_smtp.specs.declared.commands.Command.TheVariants as command
 use Rattle.example_smtp.specs.declared.commands.Reply.{Reply}
-use Rattle.example_smtp.specs.declared.commands.Reply.TheVariants.{BadArgument, BadLine, BadMessage}
-use Rattle.example_smtp.specs.declared.commands.Reply.TheVariants.{BadSequence, Bye, Closing, Done}
-use Rattle.example_smtp.specs.declared.commands.Reply.TheVariants.{LargeMessage, LongLine, NoMemory, NotStored}
-use Rattle.example_smtp.specs.declared.commands.Reply.TheVariants.{SendLines}
-use Rattle.example_smtp.specs.declared.commands.Reply.TheVariants.{TooManyRecipients, UnknownCommand}
-use Rattle.example_smtp.specs.declared.commands.Reply.TheVariants.{Unverified}
-use Rattle.example_smtp.specs.declared.commands.Verb.{Verb}
-use Rattle.example_smtp.specs.declared.commands.Verb.TheVariants as verb
 use Rattle.example_smtp.specs.declared.session.Fault.{Fault}
-use Rattle.example_smtp.specs.declared.session.Fault.TheVariants.{Rejected, TooLarge}
+use Rattle.example_smtp.specs.declared.session.Fault.TheVariants.{NoMemory, Rejected, TooLarge}
 use Rattle.example_smtp.specs.declared.session.Stage.{Stage}
 use Rattle.example_smtp.specs.declared.session.Stage.TheVariants.{Greeting, Lines, Ready}
 use Rattle.example_smtp.specs.declared.session.Stage.TheVariants.{Recipients, Sender}
 
--- ---- the exchanges of a conversation
+-- ---- one exchange
 
--- a line, or one that was rejected, is answered
-abbrev pub AnswersTo : Option (List ℕ) → State → List (List ℕ) → Next → State → Type 0
-AnswersTo (Some line) old replies asked new = Answers old line replies asked new
-AnswersTo None old replies asked new = (error : LineError) × Refuses old error replies new
+-- the session is in the lines of a message, of which these were sent, or in none
+abbrev pub Inside : Option Sent → State → Type 0
+Inside None state = state.stage ≢ Lines
+Inside (Some sent) state =
+    (state.stage ≡ Lines) × (state.fault ≡ None → IsText sent state.draft.text)
 
--- a session goes from the state `old` to the state `new` by these exchanges
-abbrev pub Runs : State → List Exchange → State → Type 0
-Runs old [] new = new ≡ old
-Runs old (exchange ∷ exchanges) new = (mid : State) × (asked : Next)
-    × AnswersTo exchange.line old exchange.replies asked mid × Runs mid exchanges new
+-- an exchange delivers messages, which the folder stores
+pub record Moves (old : State) (begun : Option Sent) (line : Option (List ℕ)) (said : Option Reply)
+    (new : State) : Type 0 where
+  pub texts : List (List ℕ)
+  pub brings : Brings (part_of said) begun line texts
+  pub stored : StoresIn old.folder texts new.folder
+  pub inside : Inside (begun_after (part_of said) begun line) new
 
--- the exchanges of a conversation
-pub record Transcript (old : State) (steps : List Step) (new : State) : Type 0 where
-  pub exchanges : List Exchange
-  pub given_up : List Exchange
-  pub is_last : IsLast given_up
-  pub are : AreExchanges steps (exchanges ++ given_up)
-  pub mid : State
-  pub runs : Runs old exchanges mid
-  pub kept : new.received ≡ mid.received
-  pub folder : new.folder ≡ mid.folder
-
--- a conversation has a transcript, whatever it awaits first: to read over a line changes nothing
-pub transcript : (endings : Endings) (size : ℕ) (now : Supply) (a b : Place State)
-    (steps : List Step) → Turns session_answers session_refuses endings size now a steps b
-    → Transcript a.handler steps b.handler
-transcript endings size now a b [] same = record {
-  exchanges = [];
-  given_up = [];
-  is_last = inl refl;
-  are = refl;
-  mid = a.handler;
-  runs = refl;
-  kept = ap (λ (p : Place State). p.handler.received) same;
-  folder = ap (λ (p : Place State). p.handler.folder) same;
-}
-transcript endings size now a b (step ∷ steps) (mid, turn, turns) =
-    go a.awaited step (transcript endings size now mid b steps turns) turn
+module _ (old new : State) (begun : Option Sent) (line : Option (List ℕ)) (said : Option Reply)
   where
-    skips : (bytes : List ℕ) → mid.handler ≡ a.handler → Transcript mid.handler steps b.handler
-        → Transcript a.handler (skipped bytes ∷ steps) b.handler
-    skips bytes same others = record {
-      exchanges = others.exchanges;
-      given_up = others.given_up;
-      is_last = others.is_last;
-      are = others.are;
-      mid = others.mid;
-      runs = subst (λ s. Runs s others.exchanges others.mid) same others.runs;
-      kept = others.kept;
-      folder = others.folder;
+    -- a message is dropped, or there was none
+    quiet : part_of said ≡ ends → new.stage ≢ Lines → StoresIn old.folder [] new.folder
+        → Moves old begun line said new
+    quiet part apart stored = record {
+      texts = [];
+      brings = subst (λ p. Brings p begun line []) (sym part) refl;
+      stored = stored;
+      inside = subst (λ p. Inside (begun_after p begun line) new) (sym part) apart;
     }
 
-    sends : mid.handler ≡ a.handler → Transcript mid.handler steps b.handler
-        → Transcript a.handler (sent_out ∷ steps) b.handler
-    sends same others = record {
-      exchanges = others.exchanges;
-      given_up = others.given_up;
-      is_last = others.is_last;
-      are = others.are;
-      mid = others.mid;
-      runs = subst (λ s. Runs s others.exchanges others.mid) same others.runs;
-      kept = others.kept;
-      folder = others.folder;
-    }
+    -- nothing changes
+    stays : part_of said ≡ ends → old.stage ≢ Lines → new ≡ old → Moves old begun line said new
+    stays part apart same = quiet part (λ is. apart (ap (λ (s : State). s.stage) (sym same) ∙ is))
+        (subst (λ (s : State). StoresIn old.folder [] s.folder) (sym same) (in_none old.folder))
 
-    go : (awaited : Awaited) (step : Step) → Transcript mid.handler steps b.handler
-        → IsTurnAt session_answers session_refuses endings size now awaited a step mid
-        → Transcript a.handler (step ∷ steps) b.handler
-    go (Input asked) (took input replies) others t = gave t.8
-      where
-        gave : session_answers a.handler input replies t.0 mid.handler
-            → Transcript a.handler (took input replies ∷ steps) b.handler
-        gave (texts, said, answers) = elim answers [
-          | inl answered_it ↦
-              record {
-                exchanges = record { line = Some input.body; replies = texts }
-                    ∷ others.exchanges;
-                given_up = others.given_up;
-                is_last = others.is_last;
-                are = (texts, others.exchanges ++ others.given_up, said, refl, others.are);
-                mid = others.mid;
-                runs = (mid.handler, t.0, answered_it, others.runs);
-                kept = others.kept;
-                folder = others.folder;
-              }
-          | inr gives ↦
-              let ends = over_ends session_answers session_refuses endings size now mid b steps
-              stop.Closed (t.3 ∙ ap awaited_by gives.closes) turns in
-              subst (λ ss. Transcript a.handler (took input replies ∷ ss) b.handler) (sym ends.0)
-              (record {
-                exchanges = [];
-                given_up = answered input.body gives.fault ∷ [];
-                is_last = inr (input.body, gives.fault, gives.why, refl);
-                are = (
-                  reply_line gives.fault ∷ [],
-                  [],
-                  said ∙ ap (map line_reply) gives.says,
-                  refl,
-                  refl,
-                );
-                mid = a.handler;
-                runs = refl;
-                kept = ap (λ (p : Place State). p.handler.received) ends.1 ∙ gives.kept;
-                folder = ap (λ (p : Place State). p.handler.folder) ends.1 ∙ gives.folder;
-              })
-        ]
-    go (Input asked) (serve.rejected error replies) others t = told t.5
-      where
-        told : session_refuses a.handler error replies t.0 mid.handler
-            → Transcript a.handler (serve.rejected error replies ∷ steps) b.handler
-        told (texts, said, refuses, asks) = record {
-          exchanges = record { line = None; replies = texts } ∷ others.exchanges;
-          given_up = others.given_up;
-          is_last = others.is_last;
-          are = (texts, others.exchanges ++ others.given_up, said, refl, others.are);
-          mid = others.mid;
-          runs = (mid.handler, t.0, (error, refuses), others.runs);
-          kept = others.kept;
-          folder = others.folder;
-        }
-    go (Input asked) (skipped bytes) others t =
-        skips bytes (ap (λ (p : Place State). p.handler) t.3) others
-    go (LineEnd asked) (skipped bytes) others t = skips bytes t.0 others
-    go (LineEnd asked) (took input replies) others none = absurd none
-    go (LineEnd asked) (serve.rejected error replies) others none = absurd none
-    go Sending sent_out others same =
-        sends (ap (λ (p : Place State). p.handler) same) others
-    go Sending (skipped bytes) others t =
-        skips bytes (ap (λ (p : Place State). p.handler) t.1) others
-    go Sending (took input replies) others none = absurd none
-    go Sending (serve.rejected error replies) others none = absurd none
-    go (Input asked) sent_out others none = absurd none
-    go (LineEnd asked) sent_out others none = absurd none
-    go (Nothing why) step others none = absurd none
+-- the part of a reply that is known
+part_by : (said : Option Reply) (reply other : Reply) → said ≡ Some reply → reply ≡ other
+    → part_of (Some other) ≡ ends → part_of said ≡ ends
+part_by said reply other is same part =
+    ap part_of is ∙ (ap (λ r. part_of (Some r)) same ∙ part)
 
--- ---- replies
+-- a reset leaves the session outside a message
+reset_apart : (stage : Stage) → reset_stage stage ≢ Lines
+reset_apart Greeting is = cc
+reset_apart Ready is = cc
+reset_apart Sender is = cc
+reset_apart Recipients is = cc
+reset_apart Lines is = cc
 
--- a number that tells the first three codes of a reply
-abbrev first_codes : List (List ℕ) → ℕ
-first_codes [] = 0
-first_codes ([] ∷ replies) = 0
-first_codes ((first ∷ []) ∷ replies) = 0
-first_codes ((first ∷ (second ∷ [])) ∷ replies) = 0
-first_codes ((first ∷ (second ∷ (third ∷ others))) ∷ replies) =
-    (first * 128 + second) * 128 + third
+-- an error of the input is outside a message
+refusal_part : (error : LineError) → part_of (Some (refusal_of error)) ≡ ends
+refusal_part (error.NotAscii place) = refl
+refusal_part (error.LoneBreak place) = refl
+refusal_part (error.TooLong start) = refl
+refusal_part error.TooFar = refl
+refusal_part (error.Incomplete count) = refl
+refusal_part error.Read = refl
 
--- a reply other than 354 is another line
-not_begin : (reply : Reply) → reply ≢ SendLines → reply_line reply ∷ [] ≢ reply_line SendLines ∷ []
-not_begin SendLines apart is = apart refl
-not_begin Bye apart is = omega (arith, ap first_codes is)
-not_begin Done apart is = omega (arith, ap first_codes is)
-not_begin Unverified apart is = omega (arith, ap first_codes is)
-not_begin TooManyRecipients apart is = omega (arith, ap first_codes is)
-not_begin UnknownCommand apart is = omega (arith, ap first_codes is)
-not_begin BadArgument apart is = omega (arith, ap first_codes is)
-not_begin BadSequence apart is = omega (arith, ap first_codes is)
-not_begin LongLine apart is = omega (arith, ap first_codes is)
-not_begin BadLine apart is = omega (arith, ap first_codes is)
-not_begin NoMemory apart is = omega (arith, ap first_codes is)
-not_begin BadMessage apart is = omega (arith, ap first_codes is)
-not_begin LargeMessage apart is = omega (arith, ap first_codes is)
-not_begin NotStored apart is = omega (arith, ap first_codes is)
-not_begin Closing apart is = omega (arith, ap first_codes is)
+-- a message with a fault is dropped
+fault_part : (fault : Fault) → part_of (Some (reply_of_fault fault)) ≡ ends
+fault_part Rejected = refl
+fault_part TooLarge = refl
+fault_part NoMemory = refl
 
--- a reply other than 250 is another line
-pub not_end : (reply : Reply) → reply ≢ Done → reply_line reply ∷ [] ≢ reply_line Done ∷ []
-not_end Done apart is = apart refl
-not_end Bye apart is = omega (arith, ap first_codes is)
-not_end SendLines apart is = omega (arith, ap first_codes is)
-not_end Unverified apart is = omega (arith, ap first_codes is)
-not_end TooManyRecipients apart is = omega (arith, ap first_codes is)
-not_end UnknownCommand apart is = omega (arith, ap first_codes is)
-not_end BadArgument apart is = omega (arith, ap first_codes is)
-not_end BadSequence apart is = omega (arith, ap first_codes is)
-not_end LongLine apart is = omega (arith, ap first_codes is)
-not_end BadLine apart is = omega (arith, ap first_codes is)
-not_end NoMemory apart is = omega (arith, ap first_codes is)
-not_end BadMessage apart is = omega (arith, ap first_codes is)
-not_end LargeMessage apart is = omega (arith, ap first_codes is)
-not_end NotStored apart is = omega (arith, ap first_codes is)
-not_end Closing apart is = omega (arith, ap first_codes is)
+module _ (old new : State) (line : List ℕ) (said : Option Reply) (apart : old.stage ≢ Lines) where
+  -- a command that begins no message
+  carried : (command : Command) → said ≡ Some (reply_to command) → new ≡ after old command
+      → part_of (Some (reply_to command)) ≡ ends → (after old command).stage ≢ Lines
+      → (after old command).folder ≡ old.folder → Moves old None (Some line) said new
+  carried command is same part stage folder =
+      quiet old new None (Some line) said (ap part_of is ∙ part)
+      (λ l. stage (ap (λ (s : State). s.stage) (sym same) ∙ l))
+      (subst (λ f. StoresIn old.folder [] f)
+      (sym (ap (λ (s : State). s.folder) same ∙ folder)) (in_none old.folder))
 
--- an exchange with another reply is outside a message
-outside_by : (exchange : Exchange) (reply : Reply) → exchange.replies ≡ reply_line reply ∷ []
-    → reply ≢ SendLines → (exchange.line ≡ Some (codes ".") → reply ≢ Done) → IsOutside exchange
-outside_by exchange reply is begins ends = record {
-  begins = λ same. not_begin reply begins (sym is ∙ same);
-  ends = λ dot same. not_end reply (ends dot) (sym is ∙ same);
-}
+  -- a command that is carried out
+  followed : (command : Command) → said ≡ Some (reply_to command) → new ≡ after old command
+      → Moves old None (Some line) said new
+  followed BeginLines is same = subst (λ r. Moves old None (Some line) r new) (sym is)
+      (subst (λ s. Moves old None (Some line) (Some (reply_to BeginLines)) s) (sym same) (record {
+        texts = [];
+        brings = refl;
+        stored = in_none old.folder;
+        inside = (refl, λ whole. ([], refl, refl));
+      }))
+  followed (Introduce domain) is same =
+      carried (Introduce domain) is same refl (λ l. cc) refl
+  followed (SetSender address) is same =
+      carried (SetSender address) is same refl (λ l. cc) refl
+  followed (AddRecipient address) is same =
+      carried (AddRecipient address) is same refl (λ l. cc) refl
+  followed Reset is same = carried Reset is same refl (reset_apart old.stage) refl
+  followed (Verify mailbox) is same = carried (Verify mailbox) is same refl apart refl
+  followed command.Reply is same = carried command.Reply is same refl apart refl
+  followed Leave is same = carried Leave is same refl apart refl
 
--- ---- a dot is not a command
+  -- a command, or why there is none
+  by_outcome : (reply : Reply) → said ≡ Some reply → (outcome : Result Command Reply)
+      → ReadsCommand line outcome
+      → MatchResult outcome (λ command. Follows old command reply new)
+      (λ fault. (reply ≡ fault) × (new ≡ old))
+      → Moves old None (Some line) said new
+  by_outcome reply is (Ok command) says follows = elim follows [
+    | inl done ↦ followed command (is ∙ ap Some done.2) done.3
+    | inr (inl early, same) ↦
+        stays old new None (Some line) said (part_by said reply _ is early.1 refl) apart same
+    | inr (inr (inl late), same) ↦
+        stays old new None (Some line) said (part_by said reply _ is late.2 refl) apart same
+    | inr (inr (inr memory), same) ↦
+        stays old new None (Some line) said (part_by said reply _ is memory refl) apart same
+  ]
+  by_outcome reply is (Err fault) faulty (said_it, same) = elim faulty [
+    | inl unknown ↦ stays old new None (Some line) said
+        (part_by said reply _ is (said_it ∙ unknown.0) refl) apart same
+    | inr bad ↦ stays old new None (Some line) said
+        (part_by said reply _ is (said_it ∙ bad.5.0) refl) apart same
+  ]
 
--- the name of a verb is longer than a dot
-long_name : (verb : Verb) → 4 ≤ length (name_of verb)
-long_name verb.Helo = lit≤ tt
-long_name verb.Ehlo = lit≤ tt
-long_name verb.Mail = lit≤ tt
-long_name verb.Rcpt = lit≤ tt
-long_name verb.Data = lit≤ tt
-long_name verb.Rset = lit≤ tt
-long_name verb.Vrfy = lit≤ tt
-long_name verb.Noop = lit≤ tt
-long_name verb.Quit = lit≤ tt
+  -- a line outside a message
+  outside : (reply : Reply) → said ≡ Some reply → AnswersCommand old line reply new
+      → Moves old None (Some line) said new
+  outside reply is answers = elim answers [
+    | inl stranger ↦
+        stays old new None (Some line) said (part_by said reply _ is stranger.1 refl) apart
+        stranger.2
+    | inr verb ↦ by_outcome reply is verb.1.0 verb.1.1 verb.1.2
+  ]
 
--- a dot does not say a command
-dot_says_nothing : (command : Command) → ¬ (Says (codes ".") command)
-dot_says_nothing command says =
-    let trims = says.3 in
-    let call = says.4 in
-    omega (
-      arith,
-      ap length trims.joined,
-      length-append says.0 trims.cut,
-      ap length call.is,
-      length-append call.other says.2,
-      ap length call.same,
-      length-map call.other lower_image,
-      length-map (name_of says.1) lower_image,
-      long_name says.1,
-    )
-
--- ---- an exchange outside a message
+-- ---- the lines of a message
 
 -- the text of a line
 abbrev text_in : Option (List ℕ) → List ℕ
 text_in None = []
 text_in (Some text) = text
 
--- the exchange leaves the session outside a message
-pub record StaysOutside (old : State) (exchange : Exchange) (new : State) : Type 0 where
-  pub outside : IsOutside exchange
-  pub stage : new.stage ≢ Lines
-  pub received : new.received ≡ old.received
-  pub folder : new.folder ≡ old.folder
-
--- the exchange begins the lines of a message
-pub record BeginsMessage (old : State) (exchange : Exchange) (new : State) : Type 0 where
-  pub start : List ℕ
-  pub begins : Says start BeginLines
-  pub is : exchange ≡ answered start SendLines
-  pub stage : new.stage ≡ Lines
-  pub empty : new.draft.text ≡ []
-  pub good : new.fault ≡ None
-  pub received : new.received ≡ old.received
-  pub folder : new.folder ≡ old.folder
-
--- a line at fault leaves the session outside a message
-faulty : (old new : State) (exchange : Exchange) (fault : Reply) → old.stage ≢ Lines
-    → fault ≢ SendLines → fault ≢ Done → exchange.replies ≡ reply_line fault ∷ [] → new ≡ old
-    → StaysOutside old exchange new
-faulty old new exchange fault apart begins ends says same = record {
-  outside = outside_by exchange fault says begins (λ dot. ends);
-  stage = λ is. apart (ap (λ (state : State). state.stage) (sym same) ∙ is);
-  received = ap (λ (state : State). state.received) same;
-  folder = ap (λ (state : State). state.folder) same;
-}
-
--- the reply to a line that does not say a command is neither 354 nor 250
-fault_apart : (line : List ℕ) (fault : Reply) → IsFault line fault
-    → (fault ≢ SendLines) × (fault ≢ Done)
-fault_apart line UnknownCommand is = (λ same. cc, λ same. cc)
-fault_apart line Bye is = absurd (let same : Bye ≡ BadArgument = is.5.0 in cc)
-fault_apart line Done is = absurd (let same : Done ≡ BadArgument = is.5.0 in cc)
-fault_apart line SendLines is = absurd (let same : SendLines ≡ BadArgument = is.5.0 in cc)
-fault_apart line Unverified is = absurd (let same : Unverified ≡ BadArgument = is.5.0 in cc)
-fault_apart line TooManyRecipients is =
-    absurd (let same : TooManyRecipients ≡ BadArgument = is.5.0 in cc)
-fault_apart line BadArgument is = (λ same. cc, λ same. cc)
-fault_apart line BadSequence is = absurd (let same : BadSequence ≡ BadArgument = is.5.0 in cc)
-fault_apart line LongLine is = absurd (let same : LongLine ≡ BadArgument = is.5.0 in cc)
-fault_apart line BadLine is = absurd (let same : BadLine ≡ BadArgument = is.5.0 in cc)
-fault_apart line NoMemory is = absurd (let same : NoMemory ≡ BadArgument = is.5.0 in cc)
-fault_apart line BadMessage is = absurd (let same : BadMessage ≡ BadArgument = is.5.0 in cc)
-fault_apart line NotStored is = absurd (let same : NotStored ≡ BadArgument = is.5.0 in cc)
-fault_apart line LargeMessage is =
-    absurd (let same : LargeMessage ≡ BadArgument = is.5.0 in cc)
-fault_apart line Closing is = absurd (let same : Closing ≡ BadArgument = is.5.0 in cc)
-
--- neither is the reply to an error of the input
-refusal_apart : (error : LineError) → (refusal_of error ≢ SendLines) × (refusal_of error ≢ Done)
-refusal_apart (error.NotAscii place) = (λ same. cc, λ same. cc)
-refusal_apart (error.LoneBreak place) = (λ same. cc, λ same. cc)
-refusal_apart (error.TooLong start) = (λ same. cc, λ same. cc)
-refusal_apart error.TooFar = (λ same. cc, λ same. cc)
-refusal_apart (error.Incomplete count) = (λ same. cc, λ same. cc)
-refusal_apart error.Read = (λ same. cc, λ same. cc)
-
-module _ (old new : State) (line : List ℕ) (replies : List (List ℕ)) (asked : Next)
-    (apart : old.stage ≢ Lines) where
-  abbrev said_here : Exchange
-  said_here = record { line = Some line; replies = replies }
-
-  -- a command whose reply is not 354 leaves the session outside a message
-  stays : (command : Command) → Says line command
-      → CarriesOut old command replies asked new → reply_to command ≢ SendLines
-      → (after old command).stage ≢ Lines → (after old command).received ≡ old.received
-      → (after old command).folder ≡ old.folder → StaysOutside old said_here new
-  stays command says carried other stage_apart same there = record {
-    outside = outside_by said_here (reply_to command) carried.says other
-        (λ dot is. dot_says_nothing command
-        (subst (λ text. Says text command) (ap text_in dot) says));
-    stage = λ is. stage_apart (ap (λ (state : State). state.stage) (sym carried.state) ∙ is);
-    received = ap (λ (state : State). state.received) carried.state ∙ same;
-    folder = ap (λ (state : State). state.folder) carried.state ∙ there;
-  }
-
-  -- a reset leaves the session outside a message
-  reset_apart : (stage : Stage) → reset_stage stage ≢ Lines
-  reset_apart Greeting is = cc
-  reset_apart Ready is = cc
-  reset_apart Sender is = cc
-  reset_apart Recipients is = cc
-  reset_apart Lines is = cc
-
-  -- a command that is carried out begins a message, or leaves the session outside one
-  followed : (command : Command) → Says line command
-      → CarriesOut old command replies asked new
-      → StaysOutside old said_here new ⊎ BeginsMessage old said_here new
-  followed (Introduce domain) says carried =
-      inl (stays (Introduce domain) says carried (λ is. cc) (λ is. cc) refl refl)
-  followed (SetSender address) says carried =
-      inl (stays (SetSender address) says carried (λ is. cc) (λ is. cc) refl refl)
-  followed (AddRecipient address) says carried =
-      inl (stays (AddRecipient address) says carried (λ is. cc) (λ is. cc) refl refl)
-  followed BeginLines says carried = inr (record {
-    start = line;
-    begins = says;
-    is = ap (λ (said : List (List ℕ)). record { line = Some line; replies = said }) carried.says;
-    stage = ap (λ (state : State). state.stage) carried.state;
-    empty = ap (λ (state : State). state.draft.text) carried.state;
-    good = ap (λ (state : State). state.fault) carried.state;
-    received = ap (λ (state : State). state.received) carried.state;
-    folder = ap (λ (state : State). state.folder) carried.state;
-  })
-  followed Reset says carried =
-      inl (stays Reset says carried (λ is. cc) (reset_apart old.stage) refl refl)
-  followed (Verify mailbox) says carried =
-      inl (stays (Verify mailbox) says carried (λ is. cc) apart refl refl)
-  followed command.Reply says carried =
-      inl (stays command.Reply says carried (λ is. cc) apart refl refl)
-  followed Leave says carried = inl (stays Leave says carried (λ is. cc) apart refl refl)
-
-  -- the answer to a line begins a message, or leaves the session outside one
-  by_outcome : (outcome : Result Command Reply) → ReadsCommand line outcome
-      → MatchResult outcome (λ command. Follows old command replies asked new)
-      (λ fault. Rejects old fault replies asked new)
-      → StaysOutside old said_here new ⊎ BeginsMessage old said_here new
-  by_outcome (Ok command) says follows = elim follows [
-    | inl allowed ↦ followed command says allowed.2
-    | inr (inl early) ↦
-        inl (faulty old new said_here BadSequence apart (λ is. cc) (λ is. cc) early.1.says
-        early.1.state)
-    | inr (inr late) ↦
-        inl (faulty old new said_here TooManyRecipients apart (λ is. cc) (λ is. cc) late.2.says
-        late.2.state)
-  ]
-  by_outcome (Err fault) is rejects =
-      let other = fault_apart line fault is in
-      inl (faulty old new said_here fault apart other.0 other.1 rejects.says rejects.state)
-
-  -- outside a message, a line is to say a command
-  answers_command : (stage : Stage) → stage ≢ Lines
-      → AnswersAt stage old line replies asked new
-      → AnswersCommand old line replies asked new
-  answers_command Greeting other answers = answers
-  answers_command Ready other answers = answers
-  answers_command Sender other answers = answers
-  answers_command Recipients other answers = answers
-  answers_command Lines other answers = absurd (other refl)
-
-  -- an said_here outside a message begins one, or leaves the session outside
-  pub outside_step : Answers old line replies asked new
-      → StaysOutside old said_here new ⊎ BeginsMessage old said_here new
-  outside_step answers =
-      elim (answers_command old.stage apart answers) [
-        | inl stranger ↦
-            inl (faulty old new said_here Closing apart (λ is. cc) (λ is. cc) stranger.1.0
-            stranger.1.2)
-        | inr verb ↦ by_outcome verb.1.0 verb.1.1 verb.1.2
-      ]
-
--- outside a message, a line that was rejected is answered
-refuses_outside : (stage : Stage) (old new : State) (replies : List (List ℕ)) (error : LineError)
-    → stage ≢ Lines → RefusesAt stage old error replies new
-    → (replies ≡ reply_line (refusal_of error) ∷ []) × (new ≡ old)
-refuses_outside Greeting old new replies error apart is = is
-refuses_outside Ready old new replies error apart is = is
-refuses_outside Sender old new replies error apart is = is
-refuses_outside Recipients old new replies error apart is = is
-refuses_outside Lines old new replies error apart is = absurd (apart refl)
-
--- so it leaves the session outside a message
-refused_step : (old new : State) (replies : List (List ℕ)) (error : LineError)
-    → old.stage ≢ Lines → Refuses old error replies new
-    → StaysOutside old (record { line = None; replies = replies }) new
-refused_step old new replies error apart refuses =
-    let (says, same) = refuses_outside old.stage old new replies error apart refuses in
-    let unlike = refusal_apart error in
-    faulty old new (record { line = None; replies = replies }) (refusal_of error) apart
-    unlike.0 unlike.1 says same
-
--- ---- the messages of the exchanges from a state on
-
--- these messages follow
-pub record Follow (old : State) (exchanges : List Exchange) (new : State) : Type 0 where
-  pub messages : List (List ℕ)
-  pub delivers : Delivers exchanges messages
-  pub received : received_texts new ≡ received_texts old ++ messages
-  pub files : Files old.folder messages new.folder
-
--- a group comes before others
-cons_group : (group : Group) (exchanges : List Exchange) (messages : List (List ℕ))
-    → IsGroup group → Delivers exchanges messages
-    → Delivers (group_exchanges group ++ exchanges) (group_messages group ++ messages)
-cons_group group exchanges messages is delivers = record {
-  groups = group ∷ delivers.groups;
-  last = delivers.last;
-  joined = ap (λ xs. group_exchanges group ++ xs) delivers.joined
-      ∙ sym (append_assoc (group_exchanges group) (flat_map group_exchanges delivers.groups)
-      delivers.last);
-  are = All-cons IsGroup group delivers.groups is delivers.are;
-  begun = delivers.begun;
-  texts = ap (λ xs. group_messages group ++ xs) delivers.texts;
-}
-
--- what was sent of a message, by its fault, and the text that is kept
-abbrev pub IsSent : Option Fault → List (Option (List ℕ)) → List ℕ → Type 0
-IsSent None sent text = (lines : List (List ℕ)) × (sent ≡ map Some lines) × IsText lines text
-IsSent (Some fault) sent text = HasFault fault sent
-
--- a session is in the lines of a message, of which `sent` were sent
-pub record Inside (start : List ℕ) (sent : List (Option (List ℕ))) (state : State) : Type 0 where
-  pub begins : Says start BeginLines
-  pub stage : state.stage ≡ Lines
-  pub inner : All (λ line. line ≢ Some (codes ".")) sent
-  pub kept : IsSent state.fault sent state.draft.text
-
--- the exchanges of a message so far, and those after them
-abbrev pub so_far : List ℕ → List (Option (List ℕ)) → List Exchange → List Exchange
-so_far start sent exchanges = answered start SendLines ∷ (map unanswered sent ++ exchanges)
-
--- outside a message and inside one
-pub record Told (old : State) (exchanges : List Exchange) (new : State) : Type 0 where
-  pub outside : old.stage ≢ Lines → Follow old exchanges new
-  pub inside : (start : List ℕ) (sent : List (Option (List ℕ))) → Inside start sent old
-      → Follow old (so_far start sent exchanges) new
-
-one_more_line : (start : List ℕ) (sent : List (Option (List ℕ))) (line : Option (List ℕ))
-    (exchanges : List Exchange)
-    → so_far start (sent ++ line ∷ []) exchanges ≡ so_far start sent (unanswered line ∷ exchanges)
-one_more_line start sent line exchanges = ap (λ xs. answered start SendLines ∷ xs)
-    (ap (λ xs. xs ++ exchanges) (map-append unanswered sent (line ∷ []))
-    ∙ append_assoc (map unanswered sent) (unanswered line ∷ []) exchanges)
-
--- a session that is ready is not in the lines of a message
-ready_apart : {received : List Mail} {folder : Option (List FileEvent)} {state : State}
-    → IsReady received folder state → state.stage ≢ Lines
-ready_apart same is =
-    let clash : Ready ≡ Lines = sym (ap (λ (state : State). state.stage) same) ∙ is in cc
-
--- one line more was sent
-inner_more : (sent : List (Option (List ℕ))) (line : Option (List ℕ))
-    → All (λ item. item ≢ Some (codes ".")) sent → line ≢ Some (codes ".")
-    → All (λ item. item ≢ Some (codes ".")) (sent ++ line ∷ [])
-inner_more sent line all one = All-append (λ item. item ≢ Some (codes ".")) sent (line ∷ []) all
-    (All-cons (λ item. item ≢ Some (codes ".")) line [] one
-    (All-nil (λ item. item ≢ Some (codes "."))))
-
-zip_more : (sent lines : List (List ℕ)) (s l : List ℕ) → AllZip Unstuffs sent lines → Unstuffs s l
-    → AllZip Unstuffs (sent ++ s ∷ []) (lines ++ l ∷ [])
-zip_more [] [] s l all one = (one, tt)
-zip_more [] (x ∷ lines) s l all one = absurd all
-zip_more (x ∷ sent) [] s l all one = absurd all
-zip_more (x ∷ sent) (y ∷ lines) s l all one = (all.0, zip_more sent lines s l all.1 one)
-
--- the text of a line more
-text_of_more : (lines : List (List ℕ)) (line : List ℕ)
-    → text_of_lines (lines ++ line ∷ []) ≡ text_of_lines lines ++ (line ++ 13 ∷ 10 ∷ [])
-text_of_more lines line = flat_map-append (λ (l : List ℕ). l ++ 13 ∷ 10 ∷ []) lines (line ∷ [])
-    ∙ ap (λ xs. text_of_lines lines ++ xs) (append-nil (line ++ 13 ∷ 10 ∷ []))
-
--- a line more without a fault
-text_more : (sent : List (List ℕ)) (text line kept : List ℕ) → IsText sent text
-    → line ≢ codes "." → Unstuffs line kept
-    → IsText (sent ++ line ∷ []) (text ++ (kept ++ 13 ∷ 10 ∷ []))
-text_more sent text line kept is inner unstuffs = record {
-  inner = All-append (λ l. l ≢ codes ".") sent (line ∷ []) is.inner
-      (All-cons (λ l. l ≢ codes ".") line [] inner (All-nil (λ l. l ≢ codes ".")));
-  lines = is.lines ++ kept ∷ [];
-  undone = zip_more sent is.lines line kept is.undone unstuffs;
-  joined = text_of_more is.lines kept ∙ ap (λ xs. xs ++ (kept ++ 13 ∷ 10 ∷ [])) is.joined;
-}
-
--- what was sent with a line more
-sent_more : (sent : List (Option (List ℕ))) (lines : List (List ℕ)) (line : List ℕ)
-    → sent ≡ map Some lines → sent ++ Some line ∷ [] ≡ map Some (lines ++ line ∷ [])
-sent_more sent lines line is =
-    ap (λ xs. xs ++ Some line ∷ []) is ∙ sym (map-append Some lines (line ∷ []))
-
--- a fault stays with a line more
-fault_more : (fault : Fault) (sent : List (Option (List ℕ))) (line : Option (List ℕ))
-    → HasFault fault sent → HasFault fault (sent ++ line ∷ [])
-fault_more Rejected sent line (before, rest, is) = (
-  before,
-  rest ++ line ∷ [],
-  ap (λ xs. xs ++ line ∷ []) is ∙ append_assoc before (None ∷ rest) (line ∷ []),
-)
-fault_more TooLarge sent line (first, rest, text, is, of, large) = (
-  first,
-  rest ++ line ∷ [],
-  text,
-  ap (λ xs. xs ++ line ∷ []) is ∙ append_assoc (map Some first) rest (line ∷ []),
-  of,
-  large,
+-- a line more in a text
+text_more : (sent : Sent) (text line : List ℕ) → IsText sent text
+    → IsText (sent ++ Some line ∷ []) (text ++ (unstuffed line ++ 13 ∷ 10 ∷ []))
+text_more sent text line (lines, are, is) = (
+  lines ++ line ∷ [],
+  ap (λ xs. xs ++ Some line ∷ []) are ∙ sym (map-append Some lines (line ∷ [])),
+  ap (λ xs. xs ++ (unstuffed line ++ 13 ∷ 10 ∷ [])) is
+      ∙ sym (flat_map-append (λ (l : List ℕ). unstuffed l ++ 13 ∷ 10 ∷ []) lines (line ∷ [])
+      ∙ ap (λ xs. text_of_lines lines ++ xs) (append-nil (unstuffed line ++ 13 ∷ 10 ∷ []))),
 )
 
-module _ (old mid new : State) (exchanges : List Exchange) (told : Told mid exchanges new)
-    (start : List ℕ) (sent : List (Option (List ℕ))) (inside : Inside start sent old) where
-  -- a line more, which is not answered
-  goes_on : (exchange : Exchange) (line : Option (List ℕ)) → exchange ≡ unanswered line
-      → mid.received ≡ old.received → mid.folder ≡ old.folder
-      → Inside start (sent ++ line ∷ []) mid
-      → Follow old (so_far start sent (exchange ∷ exchanges)) new
-  goes_on exchange line is same there more =
-      let rest = told.inside start (sent ++ line ∷ []) more in
-      record {
-        messages = rest.messages;
-        delivers = subst (λ es. Delivers es rest.messages)
-            (one_more_line start sent line exchanges
-            ∙ ap (λ e. so_far start sent (e ∷ exchanges)) (sym is)) rest.delivers;
-        received = rest.received
-            ∙ ap (λ received. map (λ (mail : Mail). mail.text) received ++ rest.messages) same;
-        files = subst (λ folder. Files folder rest.messages new.folder) there rest.files;
-      }
-
-  -- a dot, which is answered
-  ends : (exchange : Exchange) (group : Group) → group_exchanges group ++ exchanges ≡ so_far start sent (exchange ∷ exchanges)
-      → IsGroup group → mid.stage ≢ Lines
-      → received_texts mid ≡ received_texts old ++ group_messages group
-      → ((texts : List (List ℕ)) → Files mid.folder texts new.folder
-      → Files old.folder (group_messages group ++ texts) new.folder)
-      → Follow old (so_far start sent (exchange ∷ exchanges)) new
-  ends exchange group is are apart received files =
-      let rest = told.outside apart in
-      record {
-        messages = group_messages group ++ rest.messages;
-        delivers = subst (λ es. Delivers es (group_messages group ++ rest.messages)) is
-            (cons_group group exchanges rest.messages are rest.delivers);
-        received = rest.received
-            ∙ (ap (λ xs. xs ++ rest.messages) received
-            ∙ append_assoc (received_texts old) (group_messages group) rest.messages);
-        files = files rest.messages rest.files;
-      }
-
-  module _ (line : List ℕ) (replies : List (List ℕ)) where
-    abbrev here : Exchange
-    here = record { line = Some line; replies = replies }
-
-    -- a dot after a message without a fault
-    whole_line : (said : Reply) → line ≡ codes "." → replies ≡ reply_line said ∷ []
-        → old.fault ≡ None → (is_stored : Bool)
-        → Stores old.folder old.draft.text is_stored mid.folder → EndsAs is_stored old said mid
-        → Follow old (so_far start sent (here ∷ exchanges)) new
-    whole_line said is says whole true stores (done, same) =
-        let (texts, sent_is, text) = subst (λ b. IsSent b sent old.draft.text) whole inside.kept in
-        let dot = answered (codes ".") Done in
-        let here_is : here ≡ dot =
-        ap (λ (l : List ℕ). record { line = Some l; replies = replies }) is
-        ∙ ap (λ (rs : List (List ℕ)). record { line = Some (codes "."); replies = rs })
-        (says ∙ ap (λ r. reply_line r ∷ []) done) in
-        ends here (message start texts old.draft.text)
-        (ap (λ xs. answered start SendLines ∷ xs)
-        (append_assoc (map unanswered (map Some texts)) (dot ∷ []) exchanges
-        ∙ (ap (λ s. map unanswered s ++ dot ∷ exchanges) (sym sent_is)
-        ∙ ap (λ e. map unanswered sent ++ e ∷ exchanges) (sym here_is))))
-        (inside.begins, text) (ready_apart same)
-        (ap received_texts same
-        ∙ map-append (λ (mail : Mail). mail.text) old.received (old.draft ∷ []))
-        (λ others. files_stored old.folder mid.folder new.folder old.draft.text others stores)
-    whole_line said is says whole false stores (done, same) =
-        let (texts, sent_is, text) = subst (λ b. IsSent b sent old.draft.text) whole inside.kept in
-        let dot = answered (codes ".") NotStored in
-        let here_is : here ≡ dot =
-        ap (λ (l : List ℕ). record { line = Some l; replies = replies }) is
-        ∙ ap (λ (rs : List (List ℕ)). record { line = Some (codes "."); replies = rs })
-        (says ∙ ap (λ r. reply_line r ∷ []) done) in
-        ends here (unstored start texts old.draft.text)
-        (ap (λ xs. answered start SendLines ∷ xs)
-        (append_assoc (map unanswered (map Some texts)) (dot ∷ []) exchanges
-        ∙ (ap (λ s. map unanswered s ++ dot ∷ exchanges) (sym sent_is)
-        ∙ ap (λ e. map unanswered sent ++ e ∷ exchanges) (sym here_is))))
-        (inside.begins, text) (ready_apart same)
-        (ap received_texts same ∙ sym (append-nil (received_texts old)))
-        (λ others. files_failed old.folder mid.folder new.folder old.draft.text others stores)
-
-    -- a dot
-    dot_line : (said : Reply) → line ≡ codes "." → replies ≡ reply_line said ∷ []
-        → (fault : Option Fault) → old.fault ≡ fault → EndsBy fault old said mid
-        → Follow old (so_far start sent (here ∷ exchanges)) new
-    dot_line said is says None whole (is_stored, stores, ends_as) =
-        whole_line said is says whole is_stored stores ends_as
-    dot_line said is says (Some fault) bad (done, same) =
-        let dot = answered (codes ".") (reply_of_fault fault) in
-        let here_is : here ≡ dot =
-        ap (λ (l : List ℕ). record { line = Some l; replies = replies }) is
-        ∙ ap (λ (rs : List (List ℕ)). record { line = Some (codes "."); replies = rs })
-        (says ∙ ap (λ r. reply_line r ∷ []) done) in
-        ends here (dropped start sent fault)
-        (ap (λ xs. answered start SendLines ∷ xs)
-        (append_assoc (map unanswered sent) (dot ∷ []) exchanges
-        ∙ ap (λ e. map unanswered sent ++ e ∷ exchanges) (sym here_is)))
-        (inside.begins, (inside.inner, subst (λ b. IsSent b sent old.draft.text) bad inside.kept))
-        (ready_apart same)
-        (ap received_texts same ∙ sym (append-nil (received_texts old)))
-        (λ others. subst (λ folder. Files folder others new.folder)
-        (ap (λ (state : State). state.folder) same))
-
-    -- another line, which is not answered, and after which the message is the same or has a fault
-    text_line : line ≢ codes "." → replies ≡ [] → mid.received ≡ old.received
-        → mid.folder ≡ old.folder → mid.stage ≡ Lines → IsSent mid.fault (sent ++ Some line ∷ []) mid.draft.text
-        → Follow old (so_far start sent (here ∷ exchanges)) new
-    text_line inner silent same there stage kept = goes_on here (Some line)
-        (ap (λ (rs : List (List ℕ)). record { line = Some line; replies = rs }) silent) same there
-        (record {
-          begins = inside.begins;
-          stage = stage;
-          inner = inner_more sent (Some line) inside.inner (λ is. inner (ap text_in is));
-          kept = kept;
+module _ (old new : State) (sent : Sent) (said : Option Reply) (inside : Inside (Some sent) old)
+  where
+    -- a line that is not answered
+    goes_on : (line : Option (List ℕ)) → said ≡ None → line ≢ Some (codes ".")
+        → new.folder ≡ old.folder → new.stage ≡ old.stage
+        → (new.fault ≡ None → IsText (sent ++ line ∷ []) new.draft.text)
+        → Moves old (Some sent) line said new
+    goes_on line is other folder stage kept =
+        subst (λ r. Moves old (Some sent) line r new) (sym is) (record {
+          texts = [];
+          brings = (refl, other);
+          stored = subst (λ f. StoresIn old.folder [] f) (sym folder) (in_none old.folder);
+          inside = (stage ∙ inside.0, kept);
         })
 
-    -- a line that is kept, or with which the text is too large
-    kept_line : line ≢ codes "." → replies ≡ [] → old.fault ≡ None → Keeps old line mid
-        → Follow old (so_far start sent (here ∷ exchanges)) new
-    kept_line inner silent whole (kept, unstuffs, keeps) =
-        let (lines, sent_is, text) =
-        subst (λ fault. IsSent fault sent old.draft.text) whole inside.kept in
-        let more = text_more lines old.draft.text line kept text inner unstuffs in
-        let sent_are = sent_more sent lines line sent_is in
-        elim keeps [
-          | inl fits ↦
-              text_line inner silent (ap (λ (state : State). state.received) fits.1)
-              (ap (λ (state : State). state.folder) fits.1)
-              (ap (λ (state : State). state.stage) fits.1 ∙ inside.stage)
-              (subst
-              (λ (state : State). IsSent state.fault (sent ++ Some line ∷ []) state.draft.text)
-              (sym fits.1)
-              (subst
-              (λ fault. IsSent fault (sent ++ Some line ∷ [])
-              (old.draft.text ++ (kept ++ 13 ∷ 10 ∷ [])))
-              (sym whole) (lines ++ line ∷ [], sent_are, more)))
-          | inr large ↦
-              text_line inner silent (ap (λ (state : State). state.received) large.1)
-              (ap (λ (state : State). state.folder) large.1)
-              (ap (λ (state : State). state.stage) large.1 ∙ inside.stage)
-              (subst
-              (λ (state : State). IsSent state.fault (sent ++ Some line ∷ []) state.draft.text)
-              (sym large.1) (
-                lines ++ line ∷ [],
-                [],
-                old.draft.text ++ (kept ++ 13 ∷ 10 ∷ []),
-                sent_are ∙ sym (append-nil (map Some (lines ++ line ∷ []))),
-                more,
-                large.0,
-              ))
+    -- a dot
+    ended : (reply : Reply) → said ≡ Some reply → (fault : Option Fault) → old.fault ≡ fault
+        → Ends fault old reply new → Moves old (Some sent) (Some (codes ".")) said new
+    ended reply is (Some fault) bad (done, same) =
+        quiet old new (Some sent) (Some (codes ".")) said
+        (part_by said reply _ is done (fault_part fault))
+        (λ l. let e : Ready ≡ Lines = ap (λ (s : State). s.stage) (sym same) ∙ l in cc)
+        (subst (λ (s : State). StoresIn old.folder [] s.folder) (sym same) (in_none old.folder))
+    ended reply is None whole (stores, same) =
+        let apart : new.stage ≢ Lines =
+        λ l. let e : Ready ≡ Lines = ap (λ (s : State). s.stage) (sym same) ∙ l in cc in
+        elim stores [
+          | inl done ↦
+              subst (λ r. Moves old (Some sent) (Some (codes ".")) r new)
+              (sym (is ∙ ap Some done.0)) (record {
+                texts = old.draft.text ∷ [];
+                brings = (old.draft.text, refl, inside.1 whole, refl);
+                stored = done.1;
+                inside = apart;
+              })
+          | inr failed ↦
+              quiet old new (Some sent) (Some (codes ".")) said
+              (part_by said reply _ is failed.0 refl) apart failed.1
         ]
 
-    -- a line by the fault of the message
-    line_by : line ≢ codes "." → replies ≡ [] → (fault : Option Fault) → old.fault ≡ fault
-        → TakesLine fault old line mid → Follow old (so_far start sent (here ∷ exchanges)) new
-    line_by inner silent None whole keeps = kept_line inner silent whole keeps
-    line_by inner silent (Some fault) bad same =
-        text_line inner silent (ap (λ (state : State). state.received) same)
-        (ap (λ (state : State). state.folder) same)
-        (ap (λ (state : State). state.stage) same ∙ inside.stage)
-        (subst (λ (state : State). IsSent state.fault (sent ++ Some line ∷ []) state.draft.text)
-        (sym same)
-        (subst (λ f. IsSent f (sent ++ Some line ∷ []) old.draft.text) (sym bad)
-        (fault_more fault sent (Some line)
-        (subst (λ f. IsSent f sent old.draft.text) bad inside.kept))))
-
-    -- a line of a message
-    inside_line : (asked : Next) → AnswersLine old line replies asked mid
-        → Follow old (so_far start sent (here ∷ exchanges)) new
-    inside_line asked answers = elim answers [
-      | inl dot ↦ dot_line dot.1.0 dot.0 dot.1.1 old.fault refl dot.1.3
-      | inr text ↦ line_by text.0 text.1 old.fault refl text.3
+    -- a line that is kept, or ignored
+    taken : (line : List ℕ) → said ≡ None → line ≢ codes "." → (fault : Option Fault)
+        → old.fault ≡ fault → TakesLine fault old line new
+        → Moves old (Some sent) (Some line) said new
+    taken line is other (Some fault) bad same =
+        goes_on (Some line) is (λ e. other (ap text_in e))
+        (ap (λ (s : State). s.folder) same) (ap (λ (s : State). s.stage) same)
+        (λ none. let e : None ≡ Some fault =
+        sym none ∙ (ap (λ (s : State). s.fault) same ∙ bad) in cc)
+    taken line is other None whole keeps = elim keeps [
+      | inl fits ↦
+          goes_on (Some line) is (λ e. other (ap text_in e))
+          (ap (λ (s : State). s.folder) fits.1) (ap (λ (s : State). s.stage) fits.1)
+          (λ none. subst (λ (s : State). IsText (sent ++ Some line ∷ []) s.draft.text)
+          (sym fits.1) (text_more sent old.draft.text line (inside.1 whole)))
+      | inr (inl large) ↦
+          goes_on (Some line) is (λ e. other (ap text_in e))
+          (ap (λ (s : State). s.folder) large.1) (ap (λ (s : State). s.stage) large.1)
+          (λ none. let e : None ≡ Some TooLarge =
+          sym none ∙ ap (λ (s : State). s.fault) large.1 in cc)
+      | inr (inr memory) ↦
+          goes_on (Some line) is (λ e. other (ap text_in e))
+          (ap (λ (s : State). s.folder) memory) (ap (λ (s : State). s.stage) memory)
+          (λ none. let e : None ≡ Some NoMemory =
+          sym none ∙ ap (λ (s : State). s.fault) memory in cc)
     ]
 
-  -- the fault of a message of which a line was rejected
-  rejected_more : (fault : Option Fault) → old.fault ≡ fault
-      → HasFault (or_rejected fault) (sent ++ None ∷ [])
-  rejected_more None whole = (sent, [], refl)
-  rejected_more (Some fault) bad = fault_more fault sent None
-      (subst (λ f. IsSent f sent old.draft.text) bad inside.kept)
+    -- a line of a message
+    in_line : (line : List ℕ) → AnswersLine old line said new
+        → Moves old (Some sent) (Some line) said new
+    in_line line answers = elim answers [
+      | inl dot ↦
+          subst (λ l. Moves old (Some sent) (Some l) said new) (sym dot.0)
+          (ended dot.1.0 dot.1.1 old.fault refl dot.1.2)
+      | inr text ↦ taken line text.1 text.0 old.fault refl text.2
+    ]
+
+    -- a line of a message that was rejected
+    refused : (error : LineError) → RefusesAt Lines old error said new
+        → Moves old (Some sent) None said new
+    refused error (silent, same) =
+        goes_on None silent (λ is. cc) (ap (λ (s : State). s.folder) same)
+        (ap (λ (s : State). s.stage) same)
+        (λ none. let e : None ≡ Some (or_rejected old.fault) =
+        sym none ∙ ap (λ (s : State). s.fault) same in cc)
+
+-- ---- any exchange
+
+module _ (old new : State) (said : Option Reply) where
+  -- outside a message, a line is to say a command
+  answers_outside : (line : List ℕ) (stage : Stage) → stage ≢ Lines
+      → AnswersAt stage old line said new
+      → (reply : Reply) × (said ≡ Some reply) × AnswersCommand old line reply new
+  answers_outside line Greeting apart answers = answers
+  answers_outside line Ready apart answers = answers
+  answers_outside line Sender apart answers = answers
+  answers_outside line Recipients apart answers = answers
+  answers_outside line Lines apart answers = absurd (apart refl)
+
+  -- outside a message, a line that was rejected is answered
+  refuses_outside : (error : LineError) (stage : Stage) → stage ≢ Lines
+      → RefusesAt stage old error said new → (said ≡ Some (refusal_of error)) × (new ≡ old)
+  refuses_outside error Greeting apart refuses = refuses
+  refuses_outside error Ready apart refuses = refuses
+  refuses_outside error Sender apart refuses = refuses
+  refuses_outside error Recipients apart refuses = refuses
+  refuses_outside error Lines apart refuses = absurd (apart refl)
+
+  -- a line
+  moves : (input : Line) (begun : Option Sent) → Inside begun old
+      → AnswersInput old input said new → Moves old begun (Some input.body) said new
+  moves input begun inside answers = elim answers [
+    | inl cut ↦
+        quiet old new begun (Some input.body) said (ap part_of cut.1)
+        (λ l. let e : Greeting ≡ Lines = ap (λ (s : State). s.stage) (sym cut.2) ∙ l in cc)
+        (subst (λ (s : State). StoresIn old.folder [] s.folder) (sym cut.2) (in_none old.folder))
+    | inr whole ↦ at begun inside whole.1
+  ]
+    where
+      at : (begun : Option Sent) → Inside begun old → AnswersAt old.stage old input.body said new
+          → Moves old begun (Some input.body) said new
+      at None apart answers =
+          let (reply, is, command) = answers_outside input.body old.stage apart answers in
+          outside old new input.body said apart reply is command
+      at (Some sent) inside answers = in_line old new sent said inside input.body
+          (subst (λ s. AnswersAt s old input.body said new) inside.0 answers)
 
   -- a line that was rejected
-  inside_refused : (replies : List (List ℕ)) (error : LineError)
-      → RefusesAt Lines old error replies mid
-      → Follow old (so_far start sent (record { line = None; replies = replies } ∷ exchanges)) new
-  inside_refused replies error (silent, same) =
-      goes_on (record { line = None; replies = replies }) None
-      (ap (λ (rs : List (List ℕ)). record { line = None; replies = rs }) silent)
-      (ap (λ (state : State). state.received) same) (ap (λ (state : State). state.folder) same)
-      (record {
-        begins = inside.begins;
-        stage = ap (λ (state : State). state.stage) same ∙ inside.stage;
-        inner = inner_more sent None inside.inner (λ is. cc);
-        kept = subst
-            (λ (state : State). IsSent state.fault (sent ++ None ∷ []) state.draft.text)
-            (sym same) (rejected_more old.fault refl);
-      })
+  moves_rejected : (error : LineError) (begun : Option Sent) → Inside begun old
+      → RefusesAt old.stage old error said new → Moves old begun None said new
+  moves_rejected error None apart refuses =
+      let (is, same) = refuses_outside error old.stage apart refuses in
+      stays old new None None said (ap part_of is ∙ refusal_part error) apart same
+  moves_rejected error (Some sent) inside refuses = refused old new sent said inside error
+      (subst (λ s. RefusesAt s old error said new) inside.0 refuses)
 
-module _ (old mid new : State) (exchange : Exchange) (exchanges : List Exchange)
-    (told : Told mid exchanges new) where
-  -- the exchange stays outside
-  after_outside : StaysOutside old exchange mid → Follow old (exchange ∷ exchanges) new
-  after_outside stays =
-      let rest = told.outside stays.stage in
-      record {
-        messages = rest.messages;
-        delivers = cons_group (single exchange) exchanges rest.messages stays.outside
-            rest.delivers;
-        received = rest.received
-            ∙ ap (λ received. map (λ (mail : Mail). mail.text) received ++ rest.messages)
-            stays.received;
-        files = subst (λ folder. Files folder rest.messages new.folder) stays.folder rest.files;
+-- ---- the steps of a conversation
+
+module _ (first : ChannelState) (events : List Event) (endings : Endings) (size : ℕ)
+    (now : Supply) where
+  -- what the steps that come after the steps `past` deliver
+  pub record Tells (past : List Step) (begun : Option Sent) (old : State) (steps : List Step)
+      (new : State) : Type 0 where
+    pub exchanges : List Exchange
+    pub texts : List (List ℕ)
+    pub are : AreExchanges first events past steps exchanges
+    pub delivers : Delivers begun exchanges texts
+    pub stored : StoresIn old.folder texts new.folder
+
+  -- an exchange comes before others
+  cons_exchange : (past : List Step) (begun : Option Sent) (old mid new : State)
+      (line : Option (List ℕ)) (said : Option Reply) (exchanges : List Exchange)
+      (texts : List (List ℕ)) (moved : Moves old begun line said mid)
+      → Delivers (begun_after (part_of said) begun line) exchanges texts
+      → StoresIn mid.folder texts new.folder
+      → Delivers begun (record { line = line; reply = said } ∷ exchanges) (moved.texts ++ texts)
+      × StoresIn old.folder (moved.texts ++ texts) new.folder
+  cons_exchange past begun old mid new line said exchanges texts moved delivers stored = (
+    (moved.texts, texts, refl, moved.brings, delivers),
+    in_then old.folder mid.folder new.folder moved.texts texts moved.stored stored,
+  )
+
+  -- the steps from a place on
+  pub tells : (a b : Place State) (past steps : List Step) (begun : Option Sent)
+      → Inside begun a.handler
+      → Turns session_answers session_refuses endings size now a steps b
+      → AtEachSending (AreSentFirst first events) past steps
+      → Tells past begun a.handler steps b.handler
+  tells a b past [] begun inside same ordered = record {
+    exchanges = [];
+    texts = [];
+    are = refl;
+    delivers = refl;
+    stored = subst (λ (p : Place State). StoresIn a.handler.folder [] p.handler.folder) (sym same)
+        (in_none a.handler.folder);
+  }
+  tells a b past (step ∷ steps) begun inside (mid, turn, turns) ordered = go a.awaited step
+      (AtEachSending-after (AreSentFirst first events) past (step ∷ []) steps ordered)
+      (λ begun inside. tells mid b (past ++ step ∷ []) steps begun inside turns
+      (AtEachSending-after (AreSentFirst first events) past (step ∷ []) steps ordered)) turn
+    where
+      -- a step that is no exchange
+      skips : (step : Step) → mid.handler ≡ a.handler
+          → ((begun : Option Sent) → Inside begun mid.handler
+          → Tells (past ++ step ∷ []) begun mid.handler steps b.handler)
+          → Tells (past ++ step ∷ []) begun a.handler steps b.handler
+      skips step same rest =
+          subst (λ (s : State). Tells (past ++ step ∷ []) begun s steps b.handler) same
+          (rest begun (subst (Inside begun) (sym same) inside))
+
+      passed : (bytes : List ℕ) → Tells (past ++ skipped bytes ∷ []) begun a.handler steps b.handler
+          → Tells past begun a.handler (skipped bytes ∷ steps) b.handler
+      passed bytes others = record {
+        exchanges = others.exchanges;
+        texts = others.texts;
+        are = others.are;
+        delivers = others.delivers;
+        stored = others.stored;
       }
 
-  -- the exchange begins a message
-  after_begins : BeginsMessage old exchange mid → Follow old (exchange ∷ exchanges) new
-  after_begins begins =
-      let rest = told.inside begins.start [] (record {
-        begins = begins.begins;
-        stage = begins.stage;
-        inner = All-nil (λ item. item ≢ Some (codes "."));
-        kept = subst (λ b. IsSent b [] mid.draft.text) (sym begins.good) (
-          [],
-          refl,
+      passed_sending : Tells (past ++ sent_out ∷ []) begun a.handler steps b.handler
+          → Tells past begun a.handler (sent_out ∷ steps) b.handler
+      passed_sending others = record {
+        exchanges = others.exchanges;
+        texts = others.texts;
+        are = others.are;
+        delivers = others.delivers;
+        stored = others.stored;
+      }
+
+      go : (awaited : Awaited) (step : Step)
+          → AtEachSending (AreSentFirst first events) (past ++ step ∷ []) steps
+          → ((begun : Option Sent) → Inside begun mid.handler
+          → Tells (past ++ step ∷ []) begun mid.handler steps b.handler)
+          → IsTurnAt session_answers session_refuses endings size now awaited a step mid
+          → Tells past begun a.handler (step ∷ steps) b.handler
+      go (Input asked) (took input replies) then rest t =
+          let (said, is, asks, answers) = t.8 in
+          let moved = moves a.handler mid.handler said input begun inside answers in
+          let others = rest (begun_after (part_of said) begun (Some input.body)) moved.inside in
+          let more = cons_exchange past begun a.handler mid.handler b.handler (Some input.body)
+          said others.exchanges others.texts moved others.delivers others.stored in
           record {
-            inner = All-nil (λ l. l ≢ codes ".");
-            lines = [];
-            undone = tt;
-            joined = sym begins.empty;
-          },
-        );
-      }) in
-      record {
-        messages = rest.messages;
-        delivers = subst (λ e. Delivers (e ∷ exchanges) rest.messages) (sym begins.is)
-            rest.delivers;
-        received = rest.received
-            ∙ ap (λ received. map (λ (mail : Mail). mail.text) received ++ rest.messages)
-            begins.received;
-        files = subst (λ folder. Files folder rest.messages new.folder) begins.folder rest.files;
-      }
-
--- one exchange more
-tells_one : (old mid new : State) (line : Option (List ℕ)) (replies : List (List ℕ)) (asked : Next)
-    (exchanges : List Exchange) → Told mid exchanges new → AnswersTo line old replies asked mid
-    → Told old (record { line = line; replies = replies } ∷ exchanges) new
-tells_one old mid new (Some line) replies asked exchanges told answers = record {
-  outside = λ apart. elim (outside_step old mid line replies asked apart answers) [
-    | inl stays ↦ after_outside old mid new (record { line = Some line; replies = replies })
-        exchanges told stays
-    | inr begins ↦ after_begins old mid new (record { line = Some line; replies = replies })
-        exchanges told begins
-  ];
-  inside = λ start sent inside. inside_line old mid new exchanges told start sent inside line
-      replies asked
-      (subst (λ stage. AnswersAt stage old line replies asked mid) inside.stage answers);
-}
-tells_one old mid new None replies asked exchanges told (error, refuses) = record {
-  outside = λ apart. after_outside old mid new (record { line = None; replies = replies }) exchanges
-      told (refused_step old mid replies error apart refuses);
-  inside = λ start sent inside. inside_refused old mid new exchanges told start sent inside replies
-      error (subst (λ stage. RefusesAt stage old error replies mid) inside.stage refuses);
-}
-
--- every run delivers messages
-pub tells : (exchanges : List Exchange) (old new : State) → Runs old exchanges new
-    → Told old exchanges new
-tells [] old new same =
-    let none : received_texts new ≡ received_texts old ++ [] =
-    ap received_texts same ∙ sym (append-nil (received_texts old)) in
-    let nothing = subst (λ (state : State). Files old.folder [] state.folder) (sym same)
-    (files_none old.folder) in
-    record {
-      outside = λ apart. record {
-        messages = [];
-        delivers = record {
-          groups = [];
-          last = [];
-          joined = refl;
-          are = All-nil IsGroup;
-          begun = inl refl;
-          texts = refl;
-        };
-        received = none;
-        files = nothing;
-      };
-      inside = λ start sent inside. record {
-        messages = [];
-        delivers = record {
-          groups = [];
-          last = so_far start sent [];
-          joined = refl;
-          are = All-nil IsGroup;
-          begun = inr (
-            start,
-            sent,
-            ap (λ xs. answered start SendLines ∷ xs) (append-nil (map unanswered sent)),
-            inside.begins,
-            inside.inner,
-          );
-          texts = refl;
-        };
-        received = none;
-        files = nothing;
-      };
-    }
-tells (exchange ∷ exchanges) old new (mid, asked, answers, runs) =
-    tells_one old mid new exchange.line exchange.replies asked exchanges
-    (tells exchanges mid new runs) answers
-
--- a run from a new session delivers what was received
-pub delivers_all : (exchanges : List Exchange) (old new : State) → IsFresh old
-    → Runs old exchanges new → Delivers exchanges (received_texts new)
-delivers_all exchanges old new fresh runs =
-    let told = tells exchanges old new runs in
-    let follow = told.outside
-    (λ is. let greets : old.stage ≡ Greeting = ap (λ (state : State). state.stage) fresh in
-    let clash : Greeting ≡ Lines = sym greets ∙ is in cc) in
-    subst (Delivers exchanges)
-    (sym (follow.received ∙ ap (λ (state : State). received_texts state ++ follow.messages) fresh))
-    follow.delivers
-
--- and its folder has stored it
-pub files_all : (exchanges : List Exchange) (old new : State) → IsFresh old
-    → Runs old exchanges new → Files old.folder (received_texts new) new.folder
-files_all exchanges old new fresh runs =
-    let told = tells exchanges old new runs in
-    let follow = told.outside
-    (λ is. let greets : old.stage ≡ Greeting = ap (λ (state : State). state.stage) fresh in
-    let clash : Greeting ≡ Lines = sym greets ∙ is in cc) in
-    subst (λ texts. Files old.folder texts new.folder)
-    (sym (follow.received ∙ ap (λ (state : State). received_texts state ++ follow.messages) fresh))
-    follow.files
-
--- the session gives up at a line
-pub gives_up : (old new : State) (fault : Reply) → (fault ≡ NoMemory) ⊎ (fault ≡ BadLine)
-    → new.received ≡ old.received → new.folder ≡ old.folder
-    → GivesUp old (reply_line fault ∷ []) next.Close new
-gives_up old new fault why kept folder = record {
-  fault = fault;
-  why = why;
-  says = refl;
-  closes = refl;
-  kept = kept;
-  folder = folder;
-}
+            exchanges = record { line = Some input.body; reply = said } ∷ others.exchanges;
+            texts = moved.texts ++ others.texts;
+            are = (
+              said,
+              others.exchanges,
+              is,
+              refl,
+              λ received. sends_first session_answers session_refuses endings size now
+                  (AreSentFirst first events) mid b (past ++ took input replies ∷ []) steps
+                  (t.3 ∙ ap awaited_by (asks ∙ ap next_after received)) turns then,
+              others.are,
+            );
+            delivers = more.0;
+            stored = more.1;
+          }
+      go (Input asked) (serve.rejected error replies) then rest t =
+          let (said, is, asks, refuses) = t.5 in
+          let moved = moves_rejected a.handler mid.handler said error begun inside refuses in
+          let others = rest (begun_after (part_of said) begun None) moved.inside in
+          let more = cons_exchange past begun a.handler mid.handler b.handler None said
+          others.exchanges others.texts moved others.delivers others.stored in
+          record {
+            exchanges = record { line = None; reply = said } ∷ others.exchanges;
+            texts = moved.texts ++ others.texts;
+            are = (said, others.exchanges, is, refl, others.are);
+            delivers = more.0;
+            stored = more.1;
+          }
+      go (Input asked) (skipped bytes) then rest t =
+          passed bytes (skips (skipped bytes) (ap (λ (p : Place State). p.handler) t.3) rest)
+      go (LineEnd asked) (skipped bytes) then rest t =
+          passed bytes (skips (skipped bytes) t.0 rest)
+      go Sending sent_out then rest same =
+          passed_sending (skips sent_out (ap (λ (p : Place State). p.handler) same) rest)
+      go Sending (skipped bytes) then rest t =
+          passed bytes (skips (skipped bytes) (ap (λ (p : Place State). p.handler) t.1) rest)
+      go _ _ then rest none = absurd none

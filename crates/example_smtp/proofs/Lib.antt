@@ -1,5 +1,4 @@
 pub mod DeliveryLemmas
-pub mod MailboxLemmas
+pub mod FolderLemmas
 pub mod PathLemmas
 pub mod VerbLemmas
-pub mod SendingLemmas

@@ -85,13 +85,13 @@ abbrev pub Says : List ℕ → Command → Type 0
 Says line command = (said : List ℕ) × (verb : Verb) × (argument : List ℕ) × IsSaid said line
     × IsCall said verb argument × HasParts verb argument command
 
--- why `line` does not say a command. `UnknownCommand`: it does not begin with the name of a verb.
--- Otherwise it is a verb with an argument at fault
+-- why `line` does not say a command: it does not begin with the name of a verb, or is a verb with an
+-- argument at fault
 abbrev pub IsFault : List ℕ → Reply → Type 0
-IsFault line reply.UnknownCommand =
-    (said : List ℕ) × IsSaid said line × ((verb : Verb) → ¬ (BeginsWithVerb said verb))
-IsFault line fault = (said : List ℕ) × (verb : Verb) × (argument : List ℕ) × IsSaid said line
-    × IsCall said verb argument × IsPartsFault verb argument fault
+IsFault line fault = ((fault ≡ reply.UnknownCommand)
+    × ((said : List ℕ) × IsSaid said line × ((verb : Verb) → ¬ (BeginsWithVerb said verb))))
+    ⊎ ((said : List ℕ) × (verb : Verb) × (argument : List ℕ) × IsSaid said line
+    × IsCall said verb argument × IsPartsFault verb argument fault)
 
 -- `Ok`: the command that `line` says. `Err`: the reply that says why it does not say one
 abbrev pub ReadsCommand : List ℕ → Result Command Reply → Type 0
@@ -107,6 +107,7 @@ IsForeign line = StartsWith (codes "GET ") line ⊎ StartsWith (codes "POST ") l
 abbrev pub reply_line : Reply → List ℕ
 reply_line reply.Bye = codes "221 bye"
 reply_line reply.Done = codes "250 OK"
+reply_line reply.Received = codes "250 OK"
 reply_line reply.SendLines = codes "354 send the lines"
 reply_line reply.Unverified = codes "252 not verified"
 reply_line reply.TooManyRecipients = codes "452 too many recipients"
@@ -115,6 +116,7 @@ reply_line reply.BadArgument = codes "501 bad argument"
 reply_line reply.BadSequence = codes "503 bad sequence"
 reply_line reply.LongLine = codes "500 line too long"
 reply_line reply.BadLine = codes "554 bad line"
+reply_line reply.CutOff = codes "554 bad line"
 reply_line reply.NoMemory = codes "452 out of memory"
 reply_line reply.BadMessage = codes "554 bad message"
 reply_line reply.LargeMessage = codes "552 message too large"

@@ -1,6 +1,6 @@
 pub mod Commands
 pub mod Deliveries
+pub mod Folder
 pub mod Mail
-pub mod Mailbox
 pub mod Paths
 pub mod Session

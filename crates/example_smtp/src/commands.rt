@@ -79,8 +79,10 @@ pub enum Command<'a> {
 pub enum Reply {
     /// The session ends.
     Bye,
-    /// The command was carried out, or the message was received.
+    /// The command was carried out.
     Done,
+    /// The message was stored.
+    Received,
     /// The lines of the message may come.
     SendLines,
     /// Whether there is the mailbox is not told, and a message to it may come.
@@ -95,8 +97,10 @@ pub enum Reply {
     BadSequence,
     /// The line is longer than the buffer.
     LongLine,
-    /// The line is not ASCII, has a CR or an LF by itself, or was cut off.
+    /// The line is not ASCII, or has a CR or an LF by itself.
     BadLine,
+    /// The input ended in the line.
+    CutOff,
     /// There is no memory for what the line asks for.
     NoMemory,
     /// A line of the message was rejected, so the message is.
@@ -117,6 +121,7 @@ impl Reply {
         match self {
             Reply::Bye => AsciiStr::literal("221 bye"),
             Reply::Done => AsciiStr::literal("250 OK"),
+            Reply::Received => AsciiStr::literal("250 OK"),
             Reply::SendLines => AsciiStr::literal("354 send the lines"),
             Reply::Unverified => AsciiStr::literal("252 not verified"),
             Reply::TooManyRecipients => AsciiStr::literal("452 too many recipients"),
@@ -125,6 +130,7 @@ impl Reply {
             Reply::BadSequence => AsciiStr::literal("503 bad sequence"),
             Reply::LongLine => AsciiStr::literal("500 line too long"),
             Reply::BadLine => AsciiStr::literal("554 bad line"),
+            Reply::CutOff => AsciiStr::literal("554 bad line"),
             Reply::NoMemory => AsciiStr::literal("452 out of memory"),
             Reply::BadMessage => AsciiStr::literal("554 bad message"),
             Reply::LargeMessage => AsciiStr::literal("552 message too large"),

@@ -1,77 +1,50 @@
-//! A folder that keeps mail, a file for each message, as Maildir has it: a file is written in `tmp`,
-//! and moved to `new` when it is whole.
+//! Storing a mail in a folder.
 
-ghost use Rattle.std.specs.Prelude.{◌≡◌, ◌++◌, ◌∷◌, [], OnErr, OnOk, map};
+ghost use Rattle.std.specs.Prelude.{◌≡◌, ◌<◌, ◌≤◌, ◌++◌, ◌∷◌, [], OnErr, OnOk};
 ghost use Rattle.ascii.specs.View.{text_of};
-ghost use Rattle.example_smtp.specs.Mailbox.{HasFailed, storing};
-ghost use Rattle.example_smtp.specs.declared.files.FileEvent.TheVariants.{Created, FolderSynced};
-ghost use Rattle.example_smtp.specs.declared.files.FileEvent.TheVariants.{Renamed, Synced, Wrote};
+ghost use Rattle.example_smtp.specs.Folder.{Stores};
 
-use crate::files::Noted;
+use crate::folder::Folder;
 use ascii_lines::AsciiStr;
-use std::fs::File;
 use std::io::{self, ErrorKind};
 use std::marker::Model;
-use std::time::{SystemTime, UNIX_EPOCH};
 
-/// How many names are tried for a file.
+/// How many names are tried for a mail.
 const MOST_NAMES: usize = 1_000;
 
-/// A folder that keeps mail. Contracts see what happened at it.
+/// A folder that keeps mail. Contracts see what is in it.
 #[derive(Drop)]
-pub struct Mailbox<'a> {
-    rt: &'a HostRuntime,
-    folder: &'a str,
+pub struct Mailbox<F: Folder> {
+    folder: F,
     count: u64,
-    files: Noted<'a>,
 }
 
-impl<'a> Model for Mailbox<'a> {
-    ghost use Rattle.std.specs.Prelude.{List};
-    ghost use Rattle.example_smtp.specs.declared.files.FileEvent.{FileEvent};
+impl<F: Folder> Model for Mailbox<F> {
+    ghost use Rattle.example_smtp.specs.Folder.{Contents};
 
-    ghost Value = { List FileEvent };
+    ghost Value = { Contents };
 
-    ghost view = { λ mailbox. mailbox.files };
+    ghost view = { λ mailbox. F.contents mailbox.folder };
 }
 
-impl<'a> Mailbox<'a> {
-    /// Returns the mailbox of a folder that has the folders `tmp` and `new`.
-    pub fn new(rt: &'a HostRuntime, folder: &'a str) -> Mailbox<'a>
-        ensures { result ≡ [] }
+impl<F: Folder> Mailbox<F> {
+    /// Returns the mailbox of a folder.
+    pub fn new(folder: F) -> Mailbox<F>
+        ensures { result ≡ F.contents folder }
     {
-        Mailbox {
-            rt,
-            folder,
-            count: 0,
-            files: Noted::new(rt),
-        }
+        Mailbox { folder, count: 0 }
     }
 
-    /// Stores a message: its file has the text, and the system has stored both the file and the folder. On an error the
-    /// folder was not stored, so that the message may be lost.
-    #[tactic(auto, using(crate::proofs::MailboxLemmas::stored_whole))]
+    /// Stores a mail, under a name that no other mail has; or returns an error if a call failed, and then the folder
+    /// has no other mail than before.
+    #[tactic(auto, using(crate::proofs::FolderLemmas::stores_none, crate::proofs::FolderLemmas::stores_then))]
     pub fn store(&mut self, text: AsciiStr<'_>) -> io::Result<()>
-        ensures ok { OnOk result (self.new ≡ self.old ++ storing (text_of text.entry)) }
-        ensures err { OnErr result (HasFailed self.old self.new) }
-    {
-        let (name, mut file) = self.create()?;
-        self.write(&mut file, text)?;
-        self.publish(&name)?;
-        Ok(())
-    }
-
-    /// Creates a file in `tmp` under a name that is new there, and returns the name and the file.
-    #[tactic(auto, using(crate::proofs::MailboxLemmas::fails_at_once))]
-    fn create(&mut self) -> io::Result<(String, File)>
-        ensures ok { OnOk result (self.new ≡ self.old ++ Created ∷ []) }
-        ensures err { OnErr result (HasFailed self.old self.new) }
+        ensures ok { OnOk result (Stores self.old (text_of text.entry ∷ []) self.new) }
+        ensures err { OnErr result (Stores self.old [] self.new) }
     {
         for _ in 0..MOST_NAMES {
-            let name = self.next_name()?;
-            let path = format!(in self.rt.alloc(); "{}/tmp/{name}", self.folder)?;
-            match self.files.create(&path) {
-                Ok(file) => return Ok((name, file)),
+            match self.store_once(text) {
+                Ok(()) => return Ok(()),
                 Err(error) if error.kind() == ErrorKind::AlreadyExists => {}
                 Err(error) => return Err(error),
             }
@@ -79,40 +52,36 @@ impl<'a> Mailbox<'a> {
         Err(io::Error::from(ErrorKind::AlreadyExists))
     }
 
-    /// Returns a name, of the time and a number that no other name of this process has.
-    fn next_name(&mut self) -> io::Result<String>
-        ensures { self.new ≡ self.old }
+    /// Stores a mail under the next name, and removes what earlier calls left.
+    fn store_once(&mut self, text: AsciiStr<'_>) -> io::Result<()>
+        ensures ok { OnOk result (Stores self.old (text_of text.entry ∷ []) self.new) }
+        ensures err { OnErr result (Stores self.old [] self.new) }
     {
-        let time = SystemTime::now(self.rt)?
-            .duration_since(UNIX_EPOCH)
-            .unwrap_or_default();
         self.count = self.count.wrapping_add(1);
-        Ok(format!(in self.rt.alloc(); "{}.{}", time.as_nanos(), self.count)?)
+        self.folder.unlink()?;
+        self.folder.remove()?;
+        self.folder.create(self.count)?;
+        let stored = self.publish(text);
+        let _ = self.folder.remove();
+        stored
     }
 
-    /// Writes the text to the file, and lets the system store it.
-    #[tactic(auto, using(crate::proofs::MailboxLemmas::fails_at_once, crate::proofs::MailboxLemmas::fails_written))]
-    fn write(&mut self, file: &mut File, text: AsciiStr<'_>) -> io::Result<()>
-        ensures ok { OnOk result (self.new ≡ self.old
-            ++ (map Wrote (text_of text.entry) ++ Synced ∷ [])) }
-        ensures err { OnErr result (HasFailed self.old self.new) }
+    /// Writes the mail to the draft, and gives it a name.
+    fn publish(&mut self, text: AsciiStr<'_>) -> io::Result<()>
+        requires draft { self.old.drafts ≡ [] ∷ [] }
+        requires named { self.old.links ≡ [] }
+        ensures ok { OnOk result ((self.new.mails ≡ self.old.mails ++ text_of text.entry ∷ [])
+            × (self.new.links ≡ []) × (self.old.failures ≤ self.new.failures)) }
+        ensures err { OnErr result ((self.new.mails ≡ self.old.mails)
+            × (self.old.failures < self.new.failures)) }
     {
-        self.files.write_all(file, text.as_bytes())?;
-        self.files.sync(file)?;
-        Ok(())
-    }
-
-    /// Moves a file from `tmp` to `new`, and lets the system store that folder.
-    fn publish(&mut self, name: &str) -> io::Result<()>
-        ensures ok { OnOk result (self.new ≡ self.old ++ Renamed ∷ FolderSynced ∷ []) }
-        ensures err { OnErr result (HasFailed self.old self.new) }
-    {
-        let alloc = self.rt.alloc();
-        let folder = format!(in alloc; "{}/new", self.folder)?;
-        let draft = format!(in alloc; "{}/tmp/{name}", self.folder)?;
-        let path = format!(in alloc; "{folder}/{name}")?;
-        self.files.rename(&draft, &path)?;
-        self.files.sync_folder(&folder)?;
+        self.folder.write(text)?;
+        self.folder.sync()?;
+        self.folder.link(self.count)?;
+        if let Err(error) = self.folder.sync_folder() {
+            let _ = self.folder.unlink();
+            return Err(error);
+        }
         Ok(())
     }
 }

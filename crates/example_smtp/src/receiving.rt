@@ -1,25 +1,26 @@
 //! Receiving mail from a client: a session over the lines of a channel.
 
+ghost use Rattle.std.specs.Prelude.{◌≡◌};
 ghost use Rattle.ascii_lines.specs.Serve.{IsUp};
-ghost use Rattle.example_smtp.specs.Deliveries.{ServesMail};
-ghost use Rattle.example_smtp.specs.Mail.{IsFresh};
+ghost use Rattle.example_smtp.specs.Deliveries.{Receives};
+ghost use Rattle.example_smtp.specs.Mail.{idle};
 
-use crate::session::Session;
+use crate::folder::Folder;
+use crate::session::{Session, Stage};
 use ascii_lines::{Channel, LineChannel, Stop, serve};
 use std::alloc::Allocator;
 
-/// Receives mail until the client leaves, the input ends, or an error occurs, and returns why it stopped.
-/// The messages that the session has received are those that the lines and their replies deliver. At each read of the
-/// device, every line that came before has been answered, and every reply sent.
+/// Receives mail until the client leaves, the input ends, or an error occurs, and returns why it stopped. The folder has
+/// stored each message that got its 250, once and whole, and nothing that was there was replaced or removed.
 ///
 /// Condition: no call of the device to write has failed, and the session is a new one.
-pub fn receive<C: Channel, A: Allocator>(
+pub fn receive<C: Channel, A: Allocator, F: Folder>(
     lines: &mut LineChannel<C, A>,
-    session: &mut Session<'_>,
+    session: &mut Session<F>,
 ) -> Stop
     requires lines { IsUp lines.old.state }
-    requires session { IsFresh session.old }
-    ensures { ServesMail lines.old.state session.old result lines.new.state session.new }
+    requires session { session.old ≡ idle Stage.Greeting session.old.folder }
+    ensures { Receives lines.old.state session.old result lines.new.state session.new }
 {
     serve(lines, session)
 }

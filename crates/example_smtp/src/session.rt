@@ -1,16 +1,17 @@
-//! A session with one client: the message that it sends, and the messages that were received.
+//! A session with one client: the message that it sends, and the messages that are stored.
 
-ghost use Rattle.std.specs.Prelude.{◌↔◌, ◌≡◌, IfOk, IsTrue, OnErr, OnOk, length, map};
+ghost use Rattle.std.specs.Prelude.{◌↔◌, ◌≡◌, ◌∷◌, ◌++◌, [], IsTrue, OnErr, OnOk};
 ghost use Rattle.ascii.specs.View.{text_of};
-ghost use Rattle.ascii_lines.specs.Replies.{IsRequest, Says, line_reply};
-ghost use Rattle.example_smtp.specs.Mail.{Unstuffs};
-ghost use Rattle.example_smtp.specs.Mailbox.{Stores};
-ghost use Rattle.example_smtp.specs.Session.{Fits, IsAllowed, next_after, refusal_of};
-ghost use Rattle.example_smtp.specs.Session.{reply_of_fault, reply_to, reset_stage, texts_of};
+ghost use Rattle.ascii_lines.specs.LineWriter.{line_with};
+ghost use Rattle.ascii_lines.specs.Replies.{IsRequest, Says};
+ghost use Rattle.example_smtp.specs.Folder.{StoresIn};
+ghost use Rattle.example_smtp.specs.Mail.{unstuffed};
+ghost use Rattle.example_smtp.specs.Session.{Fits, IsAllowed, next_after, refusal_of, reply_lines};
+ghost use Rattle.example_smtp.specs.Session.{reply_of_fault, reply_to, reset_stage};
 
 use crate::commands::{Command, Reply, is_foreign, read_command};
+use crate::folder::Folder;
 use crate::mailbox::Mailbox;
-use ascii_devices::Log;
 use ascii_lines::{AsciiStr, AsciiString, Ending, Handler, LineError, Next, Replies, Sink};
 use std::alloc::{AllocError, Allocator, Global};
 use std::marker::Model;
@@ -37,13 +38,15 @@ pub enum Stage {
     Lines,
 }
 
-/// Why a message that was begun will not be received.
+/// Why a message that was begun will not be stored.
 #[derive(Clone, Copy, PartialEq, Eq, Debug)]
 pub enum Fault {
     /// A line of it was rejected.
     Rejected,
     /// It is too large.
     TooLarge,
+    /// There was no memory for it.
+    NoMemory,
 }
 
 /// A message: its text has each line with CR LF.
@@ -69,29 +72,19 @@ impl Message {
     }
 }
 
-/// What a session does with a line: its reply, if it gives one, and what it asks for next.
-#[derive(Clone, Copy, PartialEq, Eq, Debug)]
-pub struct Plan {
-    reply: Option<Reply>,
-    next: Next,
-}
-
-/// What is awaited, the message that was begun, and the messages that were received.
+/// What is awaited, the message that was begun, and where messages are stored.
 #[derive(Drop)]
-pub struct Session<'a> {
+pub struct Session<F: Folder> {
     alloc: Global,
     stage: Stage,
     draft: Message,
     // The first fault in the lines of the draft.
     fault: Option<Fault>,
     count: usize,
-    // The messages that were received, for contracts: they are not kept.
-    received: Log<Message>,
-    mailbox: Option<Mailbox<'a>>,
+    mailbox: Option<Mailbox<F>>,
 }
 
-impl<'a> Model for Session<'a> {
-    ghost use Rattle.std.specs.Prelude.{◌≡◌, length, map};
+impl<F: Folder> Model for Session<F> {
     ghost use Rattle.example_smtp.specs.Mail.{State, mail_of};
 
     ghost Value = { State };
@@ -100,24 +93,19 @@ impl<'a> Model for Session<'a> {
       stage = session.stage;
       draft = mail_of session.draft;
       fault = session.fault;
-      received = map mail_of session.received.items;
       folder = session.mailbox;
     } };
-
-    ghost invariant = { λ session. session.count ≡ length session.received.items };
 }
 
-impl<'a> Session<'a> {
-    ghost use Rattle.example_smtp.specs.Mail.{IsFresh, no_mail};
-    ghost use Rattle.example_smtp.specs.Session.{Answers, AnswersCommand, AnswersLine, AnswersVerb};
-    ghost use Rattle.example_smtp.specs.Session.{Follows, IsStranger};
-    ghost use Rattle.example_smtp.specs.Session.{EndsMessage, Keeps, Refuses, after, texts_of};
+impl<F: Folder> Session<F> {
+    ghost use Rattle.example_smtp.specs.Mail.{idle};
+    ghost use Rattle.example_smtp.specs.Session.{AnswersCommand, AnswersInput, AnswersLine, Ends};
+    ghost use Rattle.example_smtp.specs.Session.{Follows, IsStranger, KeepsLine, RefusesAt, after};
+    ghost use Rattle.example_smtp.specs.Session.{spoiled};
 
-    /// Creates a session that has received nothing, and stores messages in the mailbox, if there is one. Does not
-    /// allocate.
-    pub fn new(alloc: Global, mailbox: Option<Mailbox<'a>>) -> Session<'a>
-        ensures fresh { IsFresh result }
-        ensures folder { result.folder ≡ mailbox.entry }
+    /// Creates a session that stores messages in the mailbox, if there is one. Does not allocate.
+    pub fn new(alloc: Global, mailbox: Option<Mailbox<F>>) -> Session<F>
+        ensures { result ≡ idle Stage.Greeting mailbox }
     {
         Session {
             alloc,
@@ -125,48 +113,40 @@ impl<'a> Session<'a> {
             draft: Message::new(alloc),
             fault: None,
             count: 0,
-            received: Log::new(),
             mailbox,
         }
     }
 
     /// Returns the number of messages that were received.
-    pub fn message_count(&self) -> usize
-        ensures { result ≡ length self.now.received }
-    {
+    pub fn message_count(&self) -> usize {
         self.count
     }
 
-    /// Takes a line, and returns what to do; or an error if an allocation fails, and then the messages that
-    /// were received are unchanged.
-    fn plan(&mut self, line: AsciiStr<'_>) -> Result<Plan, AllocError>
-        ensures answers { IfOk result (λ plan. Answers self.old (text_of line.entry)
-            (texts_of plan.reply) plan.next self.new) }
-        ensures request { IfOk result (λ plan. IsRequest plan.next) }
-        ensures kept { OnErr result
-            ((self.new.received ≡ self.old.received) × (self.new.folder ≡ self.old.folder)) }
+    /// Takes a line, and returns the reply, if there is one. If the input ended in the line, the session is over.
+    fn take(&mut self, line: AsciiStr<'_>, ending: Ending) -> Option<Reply>
+        ensures { AnswersInput self.old (line_with line.entry ending) result self.new }
     {
+        if ending == Ending::Absent {
+            self.stage = Stage::Greeting;
+            return Some(Reply::CutOff);
+        }
         match self.stage {
-            Stage::Lines => self.plan_line(line),
-            _ => self.plan_command(line),
+            Stage::Lines => self.take_line(line),
+            _ => Some(self.take_command(line)),
         }
     }
 
     /// Takes a line that is to say a command. A client that begins with a request of HTTP is left.
-    fn plan_command(&mut self, line: AsciiStr<'_>) -> Result<Plan, AllocError>
-        ensures answers { IfOk result (λ plan. AnswersCommand self.old
-            (text_of line.entry) (texts_of plan.reply) plan.next self.new) }
-        ensures request { IfOk result (λ plan. IsRequest plan.next) }
-        ensures kept { OnErr result
-            ((self.new.received ≡ self.old.received) × (self.new.folder ≡ self.old.folder)) }
+    fn take_command(&mut self, line: AsciiStr<'_>) -> Reply
+        ensures { AnswersCommand self.old (text_of line.entry) result self.new }
     {
         if self.is_stranger(line) {
-            return Ok(Plan {
-                reply: Some(Reply::Closing),
-                next: Next::Close,
-            });
+            return Reply::Closing;
         }
-        self.plan_verb(line)
+        match read_command(line) {
+            Ok(command) => self.follow(command),
+            Err(fault) => fault,
+        }
     }
 
     /// Returns `true` if a client that has not introduced itself sends the first line of a request of HTTP.
@@ -179,156 +159,110 @@ impl<'a> Session<'a> {
         is_foreign(line)
     }
 
-    /// Takes a line that is to say a command, of a client that may be one of mail.
-    fn plan_verb(&mut self, line: AsciiStr<'_>) -> Result<Plan, AllocError>
-        ensures answers { IfOk result (λ plan. AnswersVerb self.old
-            (text_of line.entry) (texts_of plan.reply) plan.next self.new) }
-        ensures request { IfOk result (λ plan. IsRequest plan.next) }
-        ensures kept { OnErr result
-            ((self.new.received ≡ self.old.received) × (self.new.folder ≡ self.old.folder)) }
-    {
-        match read_command(line) {
-            Ok(command) => self.follow(command),
-            Err(fault) => Ok(Plan {
-                reply: Some(fault),
-                next: Next::Line,
-            }),
-        }
-    }
-
     /// Carries out a command if it is allowed, and otherwise rejects it.
-    fn follow(&mut self, command: Command<'_>) -> Result<Plan, AllocError>
-        ensures answers { IfOk result (λ plan. Follows self.old command.entry
-            (texts_of plan.reply) plan.next self.new) }
-        ensures request { IfOk result (λ plan. IsRequest plan.next) }
-        ensures kept { OnErr result
-            ((self.new.received ≡ self.old.received) × (self.new.folder ≡ self.old.folder)) }
+    fn follow(&mut self, command: Command<'_>) -> Reply
+        ensures { Follows self.old command.entry result self.new }
     {
         if !is_allowed(self.stage, command) {
-            return Ok(Plan {
-                reply: Some(Reply::BadSequence),
-                next: Next::Line,
-            });
+            return Reply::BadSequence;
         }
         if !fits(self.draft.recipients.len(), command) {
-            return Ok(Plan {
-                reply: Some(Reply::TooManyRecipients),
-                next: Next::Line,
-            });
+            return Reply::TooManyRecipients;
         }
-        self.carry_out(command)?;
-        Ok(Plan {
-            reply: Some(reply_of(command)),
-            next: next_of(command),
-        })
+        match self.carry_out(command) {
+            Ok(()) => reply_of(command),
+            Err(AllocError) => Reply::NoMemory,
+        }
     }
 
-    /// Carries out a command.
+    /// Carries out a command, or returns an error if an allocation fails; nothing is changed then.
     fn carry_out(&mut self, command: Command<'_>) -> Result<(), AllocError>
         ensures done { OnOk result (self.new ≡ after self.old command.entry) }
-        ensures kept { OnErr result
-            ((self.new.received ≡ self.old.received) × (self.new.folder ≡ self.old.folder)) }
+        ensures kept { OnErr result (self.new ≡ self.old) }
     {
         match command {
             Command::Introduce { .. } => {
                 self.draft = Message::new(self.alloc);
                 self.stage = Stage::Ready;
-                Ok(())
             }
             Command::SetSender { address } => {
                 let sender = address.to_ascii_string(self.alloc)?;
                 self.draft = Message::new(self.alloc);
                 self.draft.sender = sender;
                 self.stage = Stage::Sender;
-                Ok(())
             }
             Command::AddRecipient { address } => {
                 let recipient = address.to_ascii_string(self.alloc)?;
                 self.draft.recipients.push(recipient)?;
                 self.stage = Stage::Recipients;
-                Ok(())
             }
             Command::BeginLines => {
                 self.draft.text.clear();
                 self.fault = None;
                 self.stage = Stage::Lines;
-                Ok(())
             }
             Command::Reset => {
                 self.draft = Message::new(self.alloc);
                 self.stage = stage_after_reset(self.stage);
-                Ok(())
             }
-            Command::Verify { .. } | Command::Reply | Command::Leave => Ok(()),
+            Command::Verify { .. } | Command::Reply | Command::Leave => {}
         }
+        Ok(())
     }
 
-    /// Takes a line of a message: a dot alone ends the message, which is dropped if it has a fault. The reply to the dot is
-    /// to be sent before another message is taken.
-    fn plan_line(&mut self, sent: AsciiStr<'_>) -> Result<Plan, AllocError>
-        ensures answers { IfOk result (λ plan. AnswersLine self.old
-            (text_of sent.entry) (texts_of plan.reply) plan.next self.new) }
-        ensures request { IfOk result (λ plan. IsRequest plan.next) }
-        ensures kept { OnErr result
-            ((self.new.received ≡ self.old.received) × (self.new.folder ≡ self.old.folder)) }
+    /// Takes a line of a message: a dot alone ends the message, which is dropped if it has a fault.
+    fn take_line(&mut self, sent: AsciiStr<'_>) -> Option<Reply>
+        ensures { AnswersLine self.old (text_of sent.entry) result self.new }
     {
         if sent.eq_str(".") {
-            return Ok(Plan {
-                reply: Some(self.end_message()?),
-                next: Next::LineOnceSent,
-            });
+            return Some(self.end_message());
         }
         if self.fault.is_none() {
-            self.keep_line(sent)?;
+            self.keep_line(unstuff(sent));
         }
-        Ok(Plan {
-            reply: None,
-            next: Next::Line,
-        })
+        None
     }
 
-    /// Appends a line with dot-stuffing undone to the text of the message, unless that is then too large.
-    fn keep_line(&mut self, sent: AsciiStr<'_>) -> Result<(), AllocError>
-        ensures keeps { OnOk result
-            (Keeps self.old (text_of sent.entry) self.new) }
-        ensures kept { OnErr result
-            ((self.new.received ≡ self.old.received) × (self.new.folder ≡ self.old.folder)) }
+    /// Appends a line to the text of the message, unless that is then too large, or there is no memory.
+    fn keep_line(&mut self, line: AsciiStr<'_>)
+        ensures { KeepsLine self.old (self.old.draft.text ++ (text_of line.entry ++ 13 ∷ 10 ∷ []))
+            self.new }
     {
-        let line = unstuffed(sent);
         if line.len() + 2 > MOST_BYTES.saturating_sub(self.draft.text.len()) {
-            self.draft.text = AsciiString::new(self.alloc);
-            self.fault = Some(Fault::TooLarge);
-            return Ok(());
+            self.spoil(Fault::TooLarge);
+        } else if append_line(&mut self.draft.text, line).is_err() {
+            self.spoil(Fault::NoMemory);
         }
-        self.draft.text.push_str(line)?;
-        self.draft.text.push_str(AsciiStr::literal("\r\n"))
     }
 
-    /// Receives or drops the message that was begun.
-    fn end_message(&mut self) -> Result<Reply, AllocError>
-        ensures ends { IfOk result (λ reply.
-            EndsMessage self.old reply self.new) }
-        ensures kept { OnErr result
-            ((self.new.received ≡ self.old.received) × (self.new.folder ≡ self.old.folder)) }
+    /// Drops the text of the message for a fault.
+    fn spoil(&mut self, fault: Fault)
+        ensures { self.new ≡ spoiled self.old fault }
+    {
+        self.draft.text = AsciiString::new(self.alloc);
+        self.fault = Some(fault);
+    }
+
+    /// Stores or drops the message that was begun.
+    fn end_message(&mut self) -> Reply
+        ensures { Ends self.old.fault self.old result self.new }
     {
         let draft = replace(&mut self.draft, Message::new(self.alloc));
         self.stage = Stage::Ready;
         if let Some(fault) = self.fault {
             self.fault = None;
-            return Ok(reply_of_fault(fault));
+            return reply_of_fault(fault);
         }
-        let count = self.count.checked_add(1).ok_or(AllocError)?;
         if !store(&mut self.mailbox, draft.text.as_ascii_str()) {
-            return Ok(Reply::NotStored);
+            return Reply::NotStored;
         }
-        self.count = count;
-        self.received = self.received.and(&draft);
-        Ok(Reply::Done)
+        self.count = self.count.saturating_add(1);
+        Reply::Received
     }
 
     /// Takes an error in place of a line, and returns the reply, if there is one: a message is answered at its end.
     fn reject(&mut self, error: LineError) -> Option<Reply>
-        ensures { Refuses self.old error (texts_of result) self.new }
+        ensures { RefusesAt self.old.stage self.old error result self.new }
     {
         if self.stage == Stage::Lines {
             self.fault = Some(self.fault.unwrap_or(Fault::Rejected));
@@ -338,8 +272,8 @@ impl<'a> Session<'a> {
     }
 }
 
-impl Handler for Session<'_> {
-    ghost use Rattle.example_smtp.specs.Deliveries.{session_answers, session_refuses};
+impl<F: Folder> Handler for Session<F> {
+    ghost use Rattle.example_smtp.specs.Session.{session_answers, session_refuses};
 
     ghost answers = { session_answers };
 
@@ -351,20 +285,8 @@ impl Handler for Session<'_> {
         ending: Ending,
         replies: &mut Replies<K, A>,
     ) -> Next {
-        if ending == Ending::Absent {
-            say(Some(Reply::BadLine), replies);
-            return Next::Close;
-        }
-        match self.plan(text) {
-            Ok(plan) => {
-                say(plan.reply, replies);
-                plan.next
-            }
-            Err(AllocError) => {
-                say(Some(Reply::NoMemory), replies);
-                Next::Close
-            }
-        }
+        let reply = self.take(text, ending);
+        say(reply, replies)
     }
 
     fn refuse<K: Sink, A: Allocator>(
@@ -373,19 +295,52 @@ impl Handler for Session<'_> {
         replies: &mut Replies<K, A>,
     ) -> Next {
         let reply = self.reject(error);
-        say(reply, replies);
-        Next::Line
+        say(reply, replies)
+    }
+}
+
+/// Writes a reply, if there is one, and returns what is asked for after it.
+fn say<K: Sink, A: Allocator>(reply: Option<Reply>, replies: &mut Replies<K, A>) -> Next
+    ensures says { Says replies.old (reply_lines reply) replies.new }
+    ensures next { result ≡ next_after reply }
+    ensures request { IsRequest result }
+{
+    if let Some(reply) = reply {
+        replies.fixed_line(reply.line());
+    }
+    next_of(reply)
+}
+
+/// Returns what is asked for after a reply, if there is one.
+fn next_of(reply: Option<Reply>) -> Next
+    ensures next { result ≡ next_after reply }
+    ensures request { IsRequest result }
+{
+    match reply {
+        Some(Reply::Bye | Reply::Closing | Reply::CutOff) => Next::Close,
+        Some(Reply::Received) => Next::LineOnceSent,
+        _ => Next::Line,
     }
 }
 
 /// Stores a message in the mailbox, and returns whether that was done; without a mailbox it is.
-fn store(mailbox: &mut Option<Mailbox<'_>>, text: AsciiStr<'_>) -> bool
-    ensures { Stores mailbox.old (text_of text.entry) result mailbox.new }
+fn store<F: Folder>(mailbox: &mut Option<Mailbox<F>>, text: AsciiStr<'_>) -> bool
+    ensures stored { IsTrue result → StoresIn mailbox.old (text_of text.entry ∷ []) mailbox.new }
+    ensures kept { ¬ (IsTrue result) → StoresIn mailbox.old [] mailbox.new }
 {
     match mailbox {
         Some(mailbox) => mailbox.store(text).is_ok(),
         None => true,
     }
+}
+
+/// Appends a line and CR LF, or returns an error if an allocation fails; then a part of it may be there.
+fn append_line(text: &mut AsciiString, line: AsciiStr<'_>) -> Result<(), AllocError>
+    ensures { OnOk result
+        (text.new.text ≡ text.old.text ++ (text_of line.entry ++ 13 ∷ 10 ∷ [])) }
+{
+    text.push_str(line)?;
+    text.push_str(AsciiStr::literal("\r\n"))
 }
 
 /// Returns the reply to the dot of a message with a fault.
@@ -395,6 +350,7 @@ fn reply_of_fault(fault: Fault) -> Reply
     match fault {
         Fault::Rejected => Reply::BadMessage,
         Fault::TooLarge => Reply::LargeMessage,
+        Fault::NoMemory => Reply::NoMemory,
     }
 }
 
@@ -406,15 +362,6 @@ fn refusal(error: LineError) -> Reply
         LineError::TooLong(_) => Reply::LongLine,
         LineError::NotAscii(_) | LineError::LoneBreak(_) => Reply::BadLine,
         _ => Reply::Closing,
-    }
-}
-
-/// Writes a reply, if there is one.
-fn say<K: Sink, A: Allocator>(reply: Option<Reply>, replies: &mut Replies<K, A>)
-    ensures { Says replies.old (map line_reply (texts_of reply)) replies.new }
-{
-    if let Some(reply) = reply {
-        replies.fixed_line(reply.line());
     }
 }
 
@@ -462,20 +409,9 @@ fn reply_of(command: Command<'_>) -> Reply
     }
 }
 
-/// Returns what is asked for after a command.
-fn next_of(command: Command<'_>) -> Next
-    ensures next { result ≡ next_after command.entry }
-    ensures request { IsRequest result }
-{
-    match command {
-        Command::Leave => Next::Close,
-        _ => Next::Line,
-    }
-}
-
 /// Returns a line of a message with dot-stuffing undone.
-fn unstuffed<'a>(sent: AsciiStr<'a>) -> AsciiStr<'a>
-    ensures { Unstuffs (text_of sent.entry) (text_of result) }
+fn unstuff<'a>(sent: AsciiStr<'a>) -> AsciiStr<'a>
+    ensures { text_of result ≡ unstuffed (text_of sent.entry) }
 {
     match sent.strip_prefix(AsciiStr::literal(".")) {
         Some(line) => line,

@@ -1,5 +1,0 @@
-use Rattle.std.proofs.Common.{refl}
-use Rattle.example_smtp.proofs.session.SessionHandler.refuse.Goals as goal
-
-pub returns-clause-refuses : goal.returns-clause-refuses
-returns-clause-refuses g c = (_, c.say.ensures, (_, refl, c.reject-reply.ensures, refl))
