@@ -1,13 +1,14 @@
 -- What is said in reply to a command that was carried out.
-use Rattle.std.proofs.Common.{◌≡◌, ◌∙◌, ℕ, List, [], ◌∷◌, Ok, Some, ap, refl}
+use Rattle.std.proofs.Common.{◌≡◌, ◌∙◌, ℕ, List, [], ◌∷◌, Err, Ok, Some, ap, refl}
 use Rattle.std.specs.Prelude.{slice_get}
 use Rattle.ascii.specs.StringState.{StringState}
 use Rattle.ascii.specs.View.{text_of}
-use Rattle.example_resp.specs.Commands.{Says, Tells, after, reply, value_reply}
-use Rattle.example_resp.specs.Session.{Answer, CarriesOut, Follows, reply_lines, value_at}
+use Rattle.example_resp.specs.Commands.{IsCallFault, Says, Tells, after, reply, value_reply}
+use Rattle.example_resp.specs.Session.{Answer, CarriesOut, Follows, Rejects, reply_lines, value_at}
 use Rattle.example_resp.specs.Store.{Contents, string_texts}
 use Rattle.example_resp.specs.declared.commands.Command.{Command}
 use Rattle.example_resp.specs.declared.commands.Command.TheVariants as command
+use Rattle.example_resp.specs.declared.commands.Rejection.{Rejection}
 use Rattle.example_resp.specs.declared.replies.Reply.{Reply}
 
 -- the second of two words
@@ -39,6 +40,13 @@ told_lines held new words (command.Echo text) told (verb, arguments, (name, is, 
     ∙ ap value_reply (second words name (text_of text) arguments is parts.1)
 told_lines held new words command.Leave told says tells contents =
     ap (reply_lines new words) tells
+
+-- words that do not say a command are answered by their rejection
+pub rejected : (held : Contents) (words : List StringState) (fault : Rejection) (answer : Answer)
+    → ¬ (words ≡ []) → IsCallFault (string_texts words) fault → Rejects held fault answer
+    → CarriesOut held (string_texts words) answer
+rejected held [] fault answer some is rejects = absurd (some refl)
+rejected held (word ∷ words) fault answer some is rejects = (Err fault, is, rejects)
 
 -- words that say a command are carried out if it is followed
 pub carried : (held : Contents) (words : List StringState) (command : Command) (answer : Answer)

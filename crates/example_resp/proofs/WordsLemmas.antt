@@ -1,5 +1,5 @@
 -- Words of a line, piece by piece and word by word.
-use Rattle.std.proofs.Common.{◌≡◌, ◌≢◌, ◌∙◌, ◌+◌, ◌<◌, ◌≤◌, ℕ, List, [], ◌∷◌, ◌++◌, Some, ap, arith}
+use Rattle.std.proofs.Common.{◌≡◌, ◌≢◌, ◌<◌, ◌≤◌, ℕ, List, [], ◌∷◌, ◌++◌, ap, arith}
 use Rattle.std.proofs.Common.{inl, inr, length, length-append, refl, subst, sym, Err, Ok, Result}
 use Rattle.std.specs.Prelude.{IfSome, IsErrAnd, MatchResult, slice_get}
 use Rattle.ascii.specs.Class.{IsWhitespace}
@@ -8,7 +8,8 @@ use Rattle.example_resp.specs.Words.{HasPieces, IsGap, IsPiece, IsPiecesFault, I
 use Rattle.example_resp.specs.Words.{Opens}
 use Rattle.example_resp.specs.Words.{OpensQuotes, TakesWord, TakesWords}
 use Rattle.example_resp.specs.declared.commands.Rejection.{Rejection}
-use Rattle.example_resp.specs.declared.commands.Rejection.TheVariants.{BadEnding, BadInput, BadLength}
+use Rattle.example_resp.specs.declared.commands.Rejection.TheVariants.{BadCount, BadEnding, BadInput}
+use Rattle.example_resp.specs.declared.commands.Rejection.TheVariants.{BadLength, Foreign, NoLength}
 use Rattle.example_resp.specs.declared.commands.Rejection.TheVariants.{BadQuotes, NoMemory}
 use Rattle.example_resp.specs.declared.commands.Rejection.TheVariants.{UnknownCommand, WrongArguments}
 use Rattle.example_resp.specs.declared.words.Quotes.{Quotes}
@@ -119,10 +120,13 @@ module _ (quotes : Quotes) (text front rest inside : List ℕ)
   }
   fault_inside NoMemory fault = tt
   fault_inside BadQuotes fault = absurd fault
+  fault_inside BadCount fault = absurd fault
   fault_inside BadLength fault = absurd fault
+  fault_inside NoLength fault = absurd fault
+  fault_inside Foreign fault = absurd fault
   fault_inside BadEnding fault = absurd fault
   fault_inside UnknownCommand fault = absurd fault
-  fault_inside WrongArguments fault = absurd fault
+  fault_inside (WrongArguments verb) fault = absurd fault
 
 -- a call returns the error of another
 pub fails_with : {T E : Type 0} (result : Result T E) (fault : E) (P : T → Type 0)

@@ -1,7 +1,7 @@
 -- The commands of a store: the words that say each, its reply, and the store after it.
 use Rattle.std.specs.Map.{update}
 use Rattle.std.specs.Prelude.{◌≡◌, ◌≢◌, ◌⊎◌, ℕ, ◌<◌, List, [], ◌∷◌, ◌++◌, None, Option, Some, codes}
-use Rattle.std.specs.Prelude.{MatchResult, decimal, length, map}
+use Rattle.std.specs.Prelude.{MatchResult, decimal, length, map, ⊤}
 use Rattle.std.specs.Str.{bytes_eq}
 use Rattle.std.specs.declared.result.Result.{Result}
 use Rattle.ascii.specs.Case.{lower_image}
@@ -12,13 +12,15 @@ use Rattle.example_resp.specs.declared.commands.Command.TheVariants.{SetValue, G
 use Rattle.example_resp.specs.declared.commands.Command.TheVariants.{CountValues, DeleteValues, Echo, Leave}
 use Rattle.example_resp.specs.declared.commands.Command.TheVariants.{Reply}
 use Rattle.example_resp.specs.declared.commands.Rejection.{Rejection}
-use Rattle.example_resp.specs.declared.commands.Rejection.TheVariants.{UnknownCommand, BadLength}
-use Rattle.example_resp.specs.declared.commands.Rejection.TheVariants.{WrongArguments, BadEnding}
-use Rattle.example_resp.specs.declared.commands.Rejection.TheVariants.{BadInput, BadQuotes, NoMemory}
+use Rattle.example_resp.specs.declared.commands.Rejection.TheVariants.{BadCount, BadEnding, BadInput}
+use Rattle.example_resp.specs.declared.commands.Rejection.TheVariants.{BadLength, BadQuotes, Foreign}
+use Rattle.example_resp.specs.declared.commands.Rejection.TheVariants.{NoLength, NoMemory}
+use Rattle.example_resp.specs.declared.commands.Rejection.TheVariants.{UnknownCommand, WrongArguments}
 use Rattle.example_resp.specs.declared.commands.Verb.{Verb}
 use Rattle.example_resp.specs.declared.replies.Reply as replies
 use Rattle.example_resp.specs.declared.replies.Reply.TheVariants as said
 use Rattle.example_resp.specs.declared.commands.Verb.TheVariants.{Set, Get, Del, Exists, Ping}
+use Rattle.example_resp.specs.declared.commands.Verb.TheVariants as verbs
 use Rattle.example_resp.specs.declared.commands.Verb.TheVariants.{Quit}
 
 -- ---- what words say
@@ -30,6 +32,7 @@ name_of Get = codes "get"
 name_of Del = codes "del"
 name_of Exists = codes "exists"
 name_of Ping = codes "ping"
+name_of verbs.Echo = codes "echo"
 name_of Quit = codes "quit"
 
 -- the number of arguments that a verb takes
@@ -39,11 +42,16 @@ IsCount Get count = count ≡ 1
 IsCount Del count = 0 < count
 IsCount Exists count = 0 < count
 IsCount Ping count = (count ≡ 0) ⊎ (count ≡ 1)
-IsCount Quit count = count ≡ 0
+IsCount verbs.Echo count = count ≡ 1
+IsCount Quit count = ⊤
 
 -- `word` is the name of `verb`, ignoring ASCII case
 abbrev pub IsNameOf : Verb → List ℕ → Type 0
 IsNameOf verb word = map lower_image word ≡ name_of verb
+
+-- a line of a request of HTTP may begin with `word`, ignoring ASCII case
+abbrev pub IsForeign : List ℕ → Type 0
+IsForeign word = (map lower_image word ≡ codes "post") ⊎ (map lower_image word ≡ codes "host:")
 
 -- `command` is the verb `verb` with the arguments `arguments`
 abbrev pub HasParts : Verb → List (List ℕ) → Command → Type 0
@@ -55,13 +63,14 @@ HasParts verb arguments (DeleteValues keys) =
 HasParts verb arguments (CountValues keys) =
     (verb ≡ Exists) × (arguments ≡ string_texts keys.now) × (arguments ≢ [])
 HasParts verb arguments Reply = (verb ≡ Ping) × (arguments ≡ [])
-HasParts verb arguments (Echo text) = (verb ≡ Ping) × (arguments ≡ text_of text ∷ [])
-HasParts verb arguments Leave = (verb ≡ Quit) × (arguments ≡ [])
+HasParts verb arguments (Echo text) =
+    ((verb ≡ Ping) ⊎ (verb ≡ verbs.Echo)) × (arguments ≡ text_of text ∷ [])
+HasParts verb arguments Leave = verb ≡ Quit
 
 -- why `verb` with the arguments `arguments` is not a command: it does not take their number
 abbrev pub IsPartsFault : Verb → List (List ℕ) → Rejection → Type 0
 IsPartsFault verb arguments fault =
-    (fault ≡ WrongArguments) × ¬ (IsCount verb (length arguments))
+    (fault ≡ WrongArguments verb) × ¬ (IsCount verb (length arguments))
 
 -- `words` are the name of `verb` and then `arguments`
 abbrev pub IsCall : List (List ℕ) → Verb → List (List ℕ) → Type 0
@@ -72,11 +81,18 @@ abbrev pub Says : List (List ℕ) → Command → Type 0
 Says words command = (verb : Verb) × (arguments : List (List ℕ)) × IsCall words verb arguments
     × HasParts verb arguments command
 
--- why `words` do not say a command. `UnknownCommand`: the first is not the name of a verb, or there
--- is none. Otherwise the verb has arguments at fault
+-- the first of `words` is that of a request of HTTP
+abbrev pub IsForeignCall : List (List ℕ) → Type 0
+IsForeignCall words = (name : List ℕ) × (arguments : List (List ℕ)) × (words ≡ name ∷ arguments)
+    × IsForeign name
+
+-- why `words` do not say a command. `Foreign`: the first is that of a request of HTTP.
+-- `UnknownCommand`: it is another word that is not the name of a verb, or there is none. Otherwise
+-- the verb has arguments at fault
 abbrev pub IsCallFault : List (List ℕ) → Rejection → Type 0
-IsCallFault words UnknownCommand =
-    (verb : Verb) (arguments : List (List ℕ)) → ¬ (IsCall words verb arguments)
+IsCallFault words UnknownCommand = ¬ (IsForeignCall words)
+    × ((verb : Verb) (arguments : List (List ℕ)) → ¬ (IsCall words verb arguments))
+IsCallFault words Foreign = IsForeignCall words
 IsCallFault words rejection = (verb : Verb) × (arguments : List (List ℕ))
     × IsCall words verb arguments × IsPartsFault verb arguments rejection
 
@@ -126,8 +142,12 @@ after contents other = contents
 -- the line that says why a request was rejected
 abbrev pub error_line : Rejection → List ℕ
 error_line UnknownCommand = codes "-ERR unknown command"
-error_line WrongArguments = codes "-ERR wrong number of arguments"
-error_line BadLength = codes "-ERR the length is not a number or too large"
+error_line Foreign = codes "-ERR Protocol error: a request of HTTP"
+error_line (WrongArguments verb) =
+    codes "-ERR wrong number of arguments for '" ++ (name_of verb ++ codes "' command")
+error_line BadCount = codes "-ERR Protocol error: invalid multibulk length"
+error_line BadLength = codes "-ERR Protocol error: invalid bulk length"
+error_line NoLength = codes "-ERR Protocol error: expected '$'"
 error_line BadEnding = codes "-ERR the word is longer than its length"
 error_line BadQuotes = codes "-ERR Protocol error: unbalanced quotes in request"
 error_line BadInput = codes "-ERR Protocol error: bad input"

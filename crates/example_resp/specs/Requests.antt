@@ -5,7 +5,8 @@ use Rattle.ascii.specs.Search.{IsPrefix, StartsWith}
 use Rattle.ascii_lines.specs.declared.serving.Next.TheVariants as next
 use Rattle.example_resp.specs.Session.{Answer, Awaits, CarriesOut, Rejects, State}
 use Rattle.example_resp.specs.Store.{Contents}
-use Rattle.example_resp.specs.declared.commands.Rejection.TheVariants.{BadEnding, BadLength}
+use Rattle.example_resp.specs.declared.commands.Rejection.TheVariants.{BadCount, BadEnding}
+use Rattle.example_resp.specs.declared.commands.Rejection.TheVariants.{BadLength, NoLength}
 use Rattle.example_resp.specs.Words.{HasWords, IsLineFault}
 use Rattle.example_resp.specs.declared.commands.Rejection.{Rejection}
 use Rattle.example_resp.specs.declared.session.Length.{Length}
@@ -21,13 +22,18 @@ most_words = 64
 abbrev pub most_bytes : ℕ
 most_bytes = 1024
 
+-- `digits` have no zero before others
+abbrev pub IsShortest : List ℕ → Type 0
+IsShortest digits = (length digits ≡ 1) ⊎ ¬ (StartsWith (codes "0") digits)
+
 -- what `line` says of a length. `Known n`: it is the mark and digits that write `n`, which is at
--- most `most`. `Bad`: it is the mark and not such digits. `Absent`: it does not begin with the mark
+-- most `most`, without a zero before others. `Bad`: it is the mark and not such digits. `Absent`: it
+-- does not begin with the mark
 abbrev pub IsLength : List ℕ → ℕ → List ℕ → Length → Type 0
-IsLength mark most line (Known n) =
-    (digits : List ℕ) × IsPrefix mark line digits × WritesNumber most digits n
+IsLength mark most line (Known n) = (digits : List ℕ) × IsPrefix mark line digits
+    × WritesNumber most digits n × IsShortest digits
 IsLength mark most line Bad = (digits : List ℕ) × IsPrefix mark line digits
-    × ((n : ℕ) → ¬ (WritesNumber most digits n))
+    × ((n : ℕ) → WritesNumber most digits n → ¬ (IsShortest digits))
 IsLength mark most line Absent = ¬ (StartsWith mark line)
 
 -- `words` have been read of an array of `count` words: if that is all, they are carried out, and
@@ -41,7 +47,7 @@ pub record Continues (held : Contents) (count : ℕ) (words : List (List ℕ)) (
 -- line; or those cannot be kept
 abbrev pub Opens : Contents → List ℕ → Length → Answer → Type 0
 Opens held line (Known count) answer = Continues held count [] answer
-Opens held line Bad answer = Rejects held BadLength answer
+Opens held line Bad answer = Rejects held BadCount answer
 Opens held line Absent answer =
     ((words : List (List ℕ)) × HasWords line words × CarriesOut held words answer)
     ⊎ ((fault : Rejection) × IsLineFault line fault × Rejects held fault answer)
@@ -53,7 +59,7 @@ AwaitsWord held count words (Known size) answer =
     (size ≡ 0 → Awaits held (words ++ [] ∷ []) (stage.End count) next.Line answer)
     × (0 < size → Awaits held words (stage.Word count) (next.Part size) answer)
 AwaitsWord held count words Bad answer = Rejects held BadLength answer
-AwaitsWord held count words Absent answer = Rejects held BadLength answer
+AwaitsWord held count words Absent answer = Rejects held NoLength answer
 
 -- the answer to the first line of a request. The array `*-1` has no words, and is not answered
 pub record AnswersRequest (old : State) (line : List ℕ) (answer : Answer) : Type 0 where

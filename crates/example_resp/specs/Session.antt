@@ -85,7 +85,7 @@ pub record Awaits (held : Contents) (words : List (List ℕ)) (stage : Stage) (a
 -- starts
 abbrev pub asked_after : Rejection → Next
 asked_after UnknownCommand = next.Line
-asked_after WrongArguments = next.Line
+asked_after (WrongArguments verb) = next.Line
 asked_after other = next.Close
 
 -- the answer is the line of the rejection, and asks for what comes after it; it leaves the contents

@@ -1,8 +1,9 @@
 //! The commands of a store, and the words that say them.
 
-ghost use Rattle.std.specs.Prelude.{MatchOption, MatchResult};
+ghost use Rattle.std.specs.Prelude.{◌↔◌, IsTrue, MatchOption, MatchResult};
 ghost use Rattle.ascii.specs.View.{text_of};
-ghost use Rattle.example_resp.specs.Commands.{HasParts, IsNameOf, IsPartsFault, ReadsCommand};
+ghost use Rattle.example_resp.specs.Commands.{HasParts, IsForeign, IsNameOf, IsPartsFault};
+ghost use Rattle.example_resp.specs.Commands.{ReadsCommand};
 ghost use Rattle.example_resp.specs.Store.{string_texts};
 
 use ascii::{AsciiStr, AsciiString};
@@ -21,6 +22,8 @@ pub enum Verb {
     Exists,
     /// Asks for a reply.
     Ping,
+    /// Asks for a text.
+    Echo,
     /// Ends the session.
     Quit,
 }
@@ -60,10 +63,16 @@ pub enum Command<'a> {
 pub enum Rejection {
     /// The first word is not the name of a verb, or there are no words.
     UnknownCommand,
+    /// The first word is that of a request of HTTP.
+    Foreign,
     /// The verb takes another number of arguments.
-    WrongArguments,
-    /// A length is missing, is not a number, or is too large.
+    WrongArguments(Verb),
+    /// The number of words of an array is not a number, or is too large.
+    BadCount,
+    /// The length of a word is not a number, or is too large.
     BadLength,
+    /// A word of an array has no length.
+    NoLength,
     /// A word of an array is longer than its length says.
     BadEnding,
     /// A line has quotes that are not closed, or are closed before something other than white space.
@@ -103,10 +112,20 @@ pub fn read_command<'a>(words: &'a [AsciiString]) -> Result<Command<'a>, Rejecti
     let Some((name, arguments)) = words.split_first() else {
         return Err(Rejection::UnknownCommand);
     };
-    match read_verb(name.as_ascii_str()) {
+    let name = name.as_ascii_str();
+    match read_verb(name) {
         Some(verb) => command_of(verb, arguments),
+        None if is_foreign(name) => Err(Rejection::Foreign),
         None => Err(Rejection::UnknownCommand),
     }
+}
+
+/// Returns `true` if a line of a request of HTTP may begin with this word.
+fn is_foreign(word: AsciiStr<'_>) -> bool
+    ensures { IsTrue result ↔ IsForeign (text_of word.entry) }
+{
+    word.eq_ignore_ascii_case(AsciiStr::literal("POST"))
+        || word.eq_ignore_ascii_case(AsciiStr::literal("Host:"))
 }
 
 /// Returns the verb with this name, ignoring ASCII case, or `None` if there is none.
@@ -124,6 +143,8 @@ fn read_verb(name: AsciiStr<'_>) -> Option<Verb>
         Some(Verb::Exists)
     } else if name.eq_ignore_ascii_case(AsciiStr::literal("PING")) {
         Some(Verb::Ping)
+    } else if name.eq_ignore_ascii_case(AsciiStr::literal("ECHO")) {
+        Some(Verb::Echo)
     } else if name.eq_ignore_ascii_case(AsciiStr::literal("QUIT")) {
         Some(Verb::Quit)
     } else {
@@ -147,10 +168,10 @@ fn command_of<'a>(verb: Verb, arguments: &'a [AsciiString]) -> Result<Command<'a
         (Verb::Del, [_, ..]) => Ok(Command::DeleteValues { keys: arguments }),
         (Verb::Exists, [_, ..]) => Ok(Command::CountValues { keys: arguments }),
         (Verb::Ping, []) => Ok(Command::Reply),
-        (Verb::Ping, [text]) => Ok(Command::Echo {
+        (Verb::Ping | Verb::Echo, [text]) => Ok(Command::Echo {
             text: text.as_ascii_str(),
         }),
-        (Verb::Quit, []) => Ok(Command::Leave),
-        _ => Err(Rejection::WrongArguments),
+        (Verb::Quit, _) => Ok(Command::Leave),
+        _ => Err(Rejection::WrongArguments(verb)),
     }
 }

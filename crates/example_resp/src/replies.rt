@@ -5,9 +5,10 @@ ghost use Rattle.std.specs.Prelude.{◌≡◌, IfOk, List, OnOk, map, ℕ};
 ghost use Rattle.ascii.specs.View.{text_of};
 ghost use Rattle.ascii_lines.specs.Replies.{Says, line_reply};
 ghost use Rattle.example_resp.specs.Commands.{Tells, after, error_line, value_reply};
+ghost use Rattle.example_resp.specs.declared.commands.Rejection as Rejection;
 ghost use Rattle.example_resp.specs.Store.{contents_of};
 
-use crate::commands::{Command, Rejection};
+use crate::commands::{Command, Rejection, Verb};
 use crate::store::Store;
 use ascii::AsciiStr;
 use ascii_lines::{Replies, Sink};
@@ -58,10 +59,13 @@ pub fn line_of(rejection: Rejection) -> AsciiStr<'static>
 {
     match rejection {
         Rejection::UnknownCommand => AsciiStr::literal("-ERR unknown command"),
-        Rejection::WrongArguments => AsciiStr::literal("-ERR wrong number of arguments"),
-        Rejection::BadLength => {
-            AsciiStr::literal("-ERR the length is not a number or too large")
+        Rejection::Foreign => AsciiStr::literal("-ERR Protocol error: a request of HTTP"),
+        Rejection::WrongArguments(verb) => wrong_arguments(verb),
+        Rejection::BadCount => {
+            AsciiStr::literal("-ERR Protocol error: invalid multibulk length")
         }
+        Rejection::BadLength => AsciiStr::literal("-ERR Protocol error: invalid bulk length"),
+        Rejection::NoLength => AsciiStr::literal("-ERR Protocol error: expected '$'"),
         Rejection::BadEnding => AsciiStr::literal("-ERR the word is longer than its length"),
         Rejection::BadQuotes => {
             AsciiStr::literal("-ERR Protocol error: unbalanced quotes in request")
@@ -69,6 +73,21 @@ pub fn line_of(rejection: Rejection) -> AsciiStr<'static>
         Rejection::BadInput => AsciiStr::literal("-ERR Protocol error: bad input"),
         Rejection::NoMemory => AsciiStr::literal("-OOM out of memory"),
     }
+}
+
+/// Returns the line that says that a verb takes another number of arguments.
+fn wrong_arguments(verb: Verb) -> AsciiStr<'static>
+    ensures { text_of result ≡ error_line (Rejection.WrongArguments verb) }
+{
+    AsciiStr::literal(match verb {
+        Verb::Set => "-ERR wrong number of arguments for 'set' command",
+        Verb::Get => "-ERR wrong number of arguments for 'get' command",
+        Verb::Del => "-ERR wrong number of arguments for 'del' command",
+        Verb::Exists => "-ERR wrong number of arguments for 'exists' command",
+        Verb::Ping => "-ERR wrong number of arguments for 'ping' command",
+        Verb::Echo => "-ERR wrong number of arguments for 'echo' command",
+        Verb::Quit => "-ERR wrong number of arguments for 'quit' command",
+    })
 }
 
 /// Writes the reply to a value, or to none. Does not allocate.

@@ -1,12 +1,12 @@
 //! A session with one client: the lines and words that it sends, and the replies.
 
 ghost use Rattle.std.specs.Option.{option_map};
-ghost use Rattle.std.specs.Prelude.{◌≡◌, IfOk, map, slice_get};
+ghost use Rattle.std.specs.Prelude.{◌↔◌, ◌≡◌, IfOk, IsTrue, map, slice_get};
 ghost use Rattle.ascii.specs.View.{text_of};
 ghost use Rattle.ascii_lines.specs.Replies.{IsRequest, Says, line_reply};
 ghost use Rattle.example_resp.specs.Store.{string_texts};
 ghost use Rattle.example_resp.specs.Session.{asked_after, next_after, reply_lines, value_at};
-ghost use Rattle.example_resp.specs.Requests.{IsLength};
+ghost use Rattle.example_resp.specs.Requests.{IsLength, IsShortest};
 
 use crate::commands::{Command, Rejection, read_command};
 use crate::replies::{Reply, follow, line_of, say_value};
@@ -41,7 +41,7 @@ pub enum Stage {
 pub enum Length {
     /// The line is the mark and then this length.
     Known(usize),
-    /// The line is the mark and then something other than a length.
+    /// The line is the mark and then something other than a length, which has no zero before other digits.
     Bad,
     /// The line does not begin with the mark.
     Absent,
@@ -96,7 +96,7 @@ impl Session {
                 self.words.clear();
                 self.continue_array(count)
             }
-            Length::Bad => Ok(self.reject(Rejection::BadLength)),
+            Length::Bad => Ok(self.reject(Rejection::BadCount)),
             Length::Absent => match split_words(self.alloc, line) {
                 Ok(words) => {
                     self.words = words;
@@ -124,7 +124,8 @@ impl Session {
                 self.stage = Stage::Word(count);
                 Ok(silent(Next::Part(size)))
             }
-            _ => Ok(self.reject(Rejection::BadLength)),
+            Length::Bad => Ok(self.reject(Rejection::BadLength)),
+            Length::Absent => Ok(self.reject(Rejection::NoLength)),
         }
     }
 
@@ -306,7 +307,7 @@ fn rejected(rejection: Rejection) -> Plan
     ensures request { IsRequest result.next }
 {
     let next = match rejection {
-        Rejection::UnknownCommand | Rejection::WrongArguments => Next::Line,
+        Rejection::UnknownCommand | Rejection::WrongArguments(_) => Next::Line,
         _ => Next::Close,
     };
     Plan {
@@ -334,9 +335,19 @@ fn read_length(line: AsciiStr<'_>, mark: AsciiStr<'_>, most: usize) -> Length
     let Some(digits) = line.strip_prefix(mark) else {
         return Length::Absent;
     };
+    if !is_shortest(digits) {
+        return Length::Bad;
+    }
     match digits.to_number::<usize>() {
         Err(_) => Length::Bad,
         Ok(n) if n <= most => Length::Known(n),
         Ok(_) => Length::Bad,
     }
+}
+
+/// Returns `true` if digits have no zero before others.
+fn is_shortest(digits: AsciiStr<'_>) -> bool
+    ensures { IsTrue result ↔ IsShortest (text_of digits.entry) }
+{
+    digits.len() == 1 || !digits.starts_with(AsciiStr::literal("0"))
 }
