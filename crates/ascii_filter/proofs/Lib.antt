@@ -1,4 +1,5 @@
 pub mod CheckLemmas
+pub mod EscapedLemmas
 pub mod QuotedLemmas
 pub mod ScannerLemmas
 pub mod VisitLemmas

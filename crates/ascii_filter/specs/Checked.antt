@@ -80,7 +80,7 @@ IsWritten answer output took was now =
 -- after. A mode: it found nothing, and its outcome is that of a run in bounded memory. `check`: its
 -- output was written, or a prefix of it.
 abbrev pub IsAnswer : Task → List ℕ → Answer → List ℕ → Type 0 → List ℕ → ℕ → ℕ → Type 0
-IsAnswer (task.Filter mode is_replacing) label answer given at_end took was now =
+IsAnswer (task.Filter mode other) label answer given at_end took was now =
     (answer.found ≡ 0) × BoundedOutcome mode answer.outcome given at_end took
     × Counts Write was now answer.outcome
 IsAnswer (task.Check check) label answer given at_end took was now =

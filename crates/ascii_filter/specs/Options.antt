@@ -1,9 +1,11 @@
 -- The options of the program: the task that the words of a call ask for.
-use Rattle.std.specs.Prelude.{◌≡◌, ◌≢◌, ◌⊎◌, ◌↔◌, ℕ, ◌^◌, ◌-◌, ◌<◌, ◌≤◌, List, [], codes}
+use Rattle.std.specs.Prelude.{◌≡◌, ◌≢◌, ◌⊎◌, ℕ, ◌^◌, ◌-◌, ◌<◌, ◌≤◌, ◌/◌, ◌%◌, List, [], ◌∷◌, codes}
 use Rattle.std.specs.Prelude.{length}
 use Rattle.std.specs.Prelude.{Bool, true, false, if◌then◌else◌, map, nat_lt, option_map}
 use Rattle.std.specs.Prelude.{unwrap_or}
 use Rattle.std.specs.Borrow.{Bor}
+use Rattle.std.specs.Char.{digit_char}
+use Rattle.std.specs.List.{flat_map}
 use Rattle.std.specs.declared.result.Result.{Result}
 use Rattle.std.specs.declared.result.Result.TheVariants.{Ok, Err}
 use Rattle.std.specs.declared.option.Option.{Option}
@@ -13,32 +15,53 @@ use Rattle.clap.specs.Words.{first_value, matched_of, one_text, raw_values}
 use Rattle.ascii_run.specs.Names.{IsBoundedName, bounded_name}
 use Rattle.ascii_run.specs.declared.bounded.BoundedMode.TheVariants.{Json}
 use Rattle.ascii_filter.specs.declared.options.Options.{Options}
+use Rattle.ascii_filter.specs.declared.options.Other.{Other}
+use Rattle.ascii_filter.specs.declared.options.Other.TheVariants.{Stop, Replace, Escape}
 use Rattle.ascii_filter.specs.declared.options.Task.{Task}
 use Rattle.ascii_filter.specs.declared.options.Task.TheVariants.{Filter, Check}
 
 -- the task writes nothing
 abbrev pub IsQuiet : Task → Type 0
-IsQuiet (Filter mode is_replacing) = ⊥
+IsQuiet (Filter mode other) = ⊥
 IsQuiet (Check check) = check.is_quiet ≡ true
 
 -- the task writes names for machines
 abbrev pub IsNull : Task → Type 0
-IsNull (Filter mode is_replacing) = ⊥
+IsNull (Filter mode other) = ⊥
 IsNull (Check check) = check.is_null ≡ true
 
 -- a byte, or `?` if it is above 127
 unfoldable pub replaced : ℕ → ℕ
 replaced byte = if nat_lt byte 128 then byte else 63
 
--- the task reads each byte above 127 as `?`
-abbrev pub IsReplacing : Task → Type 0
-IsReplacing (Filter mode is_replacing) = is_replacing ≡ true
-IsReplacing (Check check) = ⊥
+-- `\x` and the two hexadecimal digits of a byte
+abbrev pub escape_of : ℕ → List ℕ
+escape_of byte = 92 ∷ 120 ∷ digit_char (byte / 16) ∷ digit_char (byte % 16) ∷ []
+
+-- a byte, or its escape if it is above 127
+unfoldable pub escaped : ℕ → List ℕ
+escaped byte = if nat_lt byte 128 then byte ∷ [] else escape_of byte
+
+-- what the task does with a byte above 127
+abbrev pub other_of : Task → Other
+other_of (Filter mode other) = other
+other_of (Check check) = Stop
+
+-- what is read of bytes, if they are known: the bytes, or each above 127 as `?`, or as its escape
+abbrev pub given_by : Other → Option (List ℕ) → Option (List ℕ)
+given_by Stop bytes = bytes
+given_by Replace bytes = option_map (map replaced) bytes
+given_by Escape bytes = option_map (flat_map escaped) bytes
 
 -- the bytes that a task is given of an input, if the input's are known
 abbrev pub given_to : Task → Option (List ℕ) → Option (List ℕ)
-given_to (Filter mode true) bytes = option_map (map replaced) bytes
-given_to other bytes = bytes
+given_to task bytes = given_by (other_of task) bytes
+
+-- what the word after `--other` names
+abbrev pub IsOtherOf : List ℕ → Other → Type 0
+IsOtherOf word Stop = (word ≢ codes "replace") × (word ≢ codes "escape")
+IsOtherOf word Replace = word ≡ codes "replace"
+IsOtherOf word Escape = word ≡ codes "escape"
 
 -- a flag is as its value says, and not set if it has none
 abbrev pub IsFlagOf : Option (List ℕ) → Bool → Type 0
@@ -65,12 +88,12 @@ HasNoOptionOfCheck options =
 
 -- the outcome of the options: the task, or the line that says what is wrong with them
 abbrev pub TaskOutcome : Options → Result Task (Bor (List ℕ)) → Type 0
-TaskOutcome options (Ok (Filter mode is_replacing)) =
+TaskOutcome options (Ok (Filter mode other)) =
     (options.mode.now ≡ bounded_name mode) × HasNoOptionOfCheck options
-    × ((is_replacing ≡ true) ↔ (options.other.now ≡ codes "replace"))
+    × IsOtherOf options.other.now other
     × (mode ≡ Json → options.files ≤ 1)
 TaskOutcome options (Ok (Check check)) =
-    (options.mode.now ≡ codes "check") × (options.other.now ≢ codes "replace")
+    (options.mode.now ≡ codes "check") × IsOtherOf options.other.now Stop
     × (check.is_count ≡ options.is_count)
     × (check.is_quiet ≡ options.is_quiet) × (check.is_null ≡ options.is_null)
     × (check.most ≡ if options.is_quiet then 1 else unwrap_or options.max (2 ^ 64 - 1))
@@ -78,7 +101,7 @@ TaskOutcome options (Err line) =
     ((line.now ≡ codes "ascii_filter: there is no such mode\n")
     × (options.mode.now ≢ codes "check") × ¬ (IsBoundedName options.mode.now))
     ⊎ (((line.now ≡ codes "ascii_filter: --other is not an option of check\n")
-    × (options.mode.now ≡ codes "check") × (options.other.now ≡ codes "replace"))
+    × (options.mode.now ≡ codes "check") × ¬ (IsOtherOf options.other.now Stop))
     ⊎ (((line.now ≡ codes "ascii_filter: --count, --max, --null and --quiet are options of check\n")
     × IsBoundedName options.mode.now × ¬ (HasNoOptionOfCheck options))
     ⊎ ((line.now ≡ codes "ascii_filter: json takes one input\n")

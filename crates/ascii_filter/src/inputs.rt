@@ -12,9 +12,10 @@ ghost use Rattle.ascii_filter.specs.Status.{IsFailureOf, IsVisit};
 ghost use Rattle.ascii_filter.specs.declared.answer.Answer.{Answer};
 
 use crate::answer::{Answer, run_task};
+use crate::escaped::Escaped;
 use crate::failure::{Failure, Verdict};
 use crate::names::is_text;
-use crate::options::Task;
+use crate::options::{Other, Task};
 use crate::replaced::Replaced;
 use ascii_devices::{Input, Sink};
 use ascii_run::BoundedFault;
@@ -81,7 +82,7 @@ pub fn run_file<K: Sink>(
     }
 }
 
-/// Carries out the task on an input, of which each byte above 127 is `?` if the task says so.
+/// Carries out the task on an input, of which each byte above 127 is read as the task says.
 fn run_decoded<I: io::Read + Drop, K: Sink>(
     alloc: Global,
     task: Task,
@@ -97,10 +98,10 @@ fn run_decoded<I: io::Read + Drop, K: Sink>(
         (K.failures writer.old) (K.failures writer.new)
         × (result.found ≡ answer.found) × IsFailureOf answer.outcome result.failure }
 {
-    if task.is_replacing() {
-        run_input(alloc, task, label, Replaced { reader: input }, writer)
-    } else {
-        run_input(alloc, task, label, input, writer)
+    match task.other() {
+        Other::Stop => run_input(alloc, task, label, input, writer),
+        Other::Replace => run_input(alloc, task, label, Replaced { reader: input }, writer),
+        Other::Escape => run_input(alloc, task, label, Escaped::new(input), writer),
     }
 }
 

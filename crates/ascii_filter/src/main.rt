@@ -6,6 +6,7 @@ ghost use Rattle.ascii_filter.specs.Status.{VisitsAll};
 
 mod answer;
 mod check;
+mod escaped;
 mod failure;
 mod inputs;
 mod names;

@@ -2,8 +2,7 @@
 
 ghost use Rattle.std.specs.Prelude.{◌≡◌, ◌↔◌, IsTrue};
 ghost use Rattle.clap.specs.Words.{found_of};
-ghost use Rattle.ascii_filter.specs.Options.{AreOptionsOf, IsNull, IsQuiet, IsReplacing};
-ghost use Rattle.ascii_filter.specs.Options.{TaskOutcome};
+ghost use Rattle.ascii_filter.specs.Options.{AreOptionsOf, IsNull, IsQuiet, TaskOutcome, other_of};
 
 use ascii_run::BoundedMode;
 use clap::builder::ValueParser;
@@ -16,8 +15,36 @@ pub const STANDARD_INPUT: &str = "(standard input)";
 /// The name of the mode that names each non-ASCII byte. The others are those of the library.
 const CHECK: &str = "check";
 
-/// What `--other` names: a byte above 127 ends the input of a mode that takes only ASCII, or is read as `?`.
-const OTHERS: [&str; 2] = ["stop", "replace"];
+/// The names of `Other`.
+const OTHERS: [&str; 3] = ["stop", "replace", "escape"];
+
+/// What a mode does with a byte above 127.
+#[derive(Clone, Copy, PartialEq, Eq)]
+pub enum Other {
+    /// It ends the input of a mode that takes only ASCII.
+    Stop,
+    /// It is read as `?`.
+    Replace,
+    /// It is read as `\x` and its two hexadecimal digits.
+    Escape,
+}
+
+impl Other {
+    ghost use Rattle.ascii_filter.specs.Options.{IsOtherOf};
+
+    /// Returns what the word after `--other` names: `Stop` if there is none.
+    fn from_name(name: &str) -> Other
+        ensures { IsOtherOf name.now result }
+    {
+        if name == OTHERS[1] {
+            Other::Replace
+        } else if name == OTHERS[2] {
+            Other::Escape
+        } else {
+            Other::Stop
+        }
+    }
+}
 
 /// What `check` writes of each input.
 #[derive(Clone, Copy)]
@@ -39,8 +66,8 @@ pub enum Task {
     Filter {
         /// The mode.
         mode: BoundedMode,
-        /// Whether each byte above 127 is read as `?`.
-        is_replacing: bool,
+        /// What it does with a byte above 127.
+        other: Other,
     },
     /// Each non-ASCII byte is named.
     Check(Check),
@@ -61,17 +88,14 @@ impl Task {
         matches!(self, Task::Check(Check { is_null: true, .. }))
     }
 
-    /// Returns `true` if each byte above 127 is read as `?`.
-    pub fn is_replacing(self) -> bool
-        ensures { IsTrue result ↔ IsReplacing self }
+    /// Returns what is done with a byte above 127: `check` reads it as it is.
+    pub fn other(self) -> Other
+        ensures { result ≡ other_of self }
     {
-        matches!(
-            self,
-            Task::Filter {
-                is_replacing: true,
-                ..
-            }
-        )
+        match self {
+            Task::Filter { other, .. } => other,
+            Task::Check(_) => Other::Stop,
+        }
     }
 }
 
@@ -120,9 +144,9 @@ pub fn task_of(options: Options<'_>) -> Result<Task, &'static str>
         max,
         ..
     } = options;
-    let is_replacing = options.other == OTHERS[1];
+    let other = Other::from_name(options.other);
     if options.mode == CHECK {
-        if is_replacing {
+        if other != Other::Stop {
             return Err("ascii_filter: --other is not an option of check\n");
         }
         let most = if is_quiet { 1 } else { max.unwrap_or(u64::MAX) };
@@ -142,7 +166,7 @@ pub fn task_of(options: Options<'_>) -> Result<Task, &'static str>
     if mode == BoundedMode::Json && options.files > 1 {
         return Err("ascii_filter: json takes one input\n");
     }
-    Ok(Task::Filter { mode, is_replacing })
+    Ok(Task::Filter { mode, other })
 }
 
 /// The names of the modes, in the order of the help.
@@ -169,7 +193,7 @@ Modes:
   check   A line for each byte above 127: the file, the line, the column and the byte
 
 Exit status:
-  0  Every input was ASCII, or the mode takes any bytes, or they are replaced
+  0  Every input was ASCII, or the mode takes any bytes, or `--other` reads them as ASCII
   1  An input has a byte above 127
   2  The arguments are not a call; nothing was read
   3  An input could not be read, or is the output; a write failed; or there was no memory
@@ -179,7 +203,8 @@ Of several, the status is the highest. A pipe that its reader has closed counts 
 Examples:
   ascii_filter check -m 1 *.txt      The first byte above 127 of each file
   ascii_filter lossy old.txt > new   A copy with `?` for each byte above 127
-  ascii_filter --other=replace json  Such a copy of standard input as a JSON string";
+  ascii_filter --other=replace json  Such a copy of standard input as a JSON string
+  ascii_filter --other=escape lines  The lines of standard input, with `\\xNN` for such a byte";
 
 /// The command line of the program, with these names of modes.
 pub fn command<'a>(alloc: Global, names: &'a [&'a str]) -> Result<Command<'a>, AllocError> {
@@ -219,7 +244,9 @@ pub fn command<'a>(alloc: Global, names: &'a [&'a str]) -> Result<Command<'a>, A
         .value_name("WHAT")
         .action(ArgAction::Set)
         .value_parser(OTHERS.as_slice())
-        .help("The other modes: what a byte above 127 is, the end of what is written or `?`");
+        .help(
+            "The other modes: a byte above 127 ends what is written, or is read as `?` or as `\\xNN`",
+        );
     Command::new(alloc, "ascii_filter")
         .version("0.1.0")
         .about("Writes ASCII inputs of any length in one of several modes")

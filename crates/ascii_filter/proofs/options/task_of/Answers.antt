@@ -1,13 +1,23 @@
-use Rattle.std.proofs.Common.{rules, ◌≡◌, inl, inr, refl}
+use Rattle.std.proofs.Common.{rules, ◌≡◌, ℕ, List, inl, inr, refl}
 use Rattle.std.specs.Prelude.{codes, ◌≢◌}
+use Rattle.ascii_filter.specs.Options.{IsOtherOf}
+use Rattle.ascii_filter.specs.declared.options.Other.{Other}
+use Rattle.ascii_filter.specs.declared.options.Other.TheVariants.{Escape, Replace, Stop}
 use Rattle.ascii_run.specs.Names.{IsBoundedName}
 use Rattle.ascii_filter.proofs.options.task_of.Goals as goal
 
-pub returns-then-is_replacing : goal.returns-then-is_replacing
-returns-then-is_replacing c =
+-- a word names one thing
+not_stop : (word : List ℕ) (other : Other) → IsOtherOf word other → other ≢ Stop
+    → ¬ (IsOtherOf word Stop)
+not_stop word Stop is other stop = other refl
+not_stop word Replace is other stop = stop.0 is
+not_stop word Escape is other stop = stop.1 is
+
+pub returns-then-ne : goal.returns-then-ne
+returns-then-ne c =
     let mode : c.args.options.mode.now ≡ codes "check" = search rules in
-    let other : c.args.options.other.now ≡ codes "replace" = search rules in
-    inr (inl (refl, mode, other))
+    let other : c.from_name-other.result ≢ Stop = search rules in
+    inr (inl (refl, mode, not_stop _ _ c.from_name-other.ensures other))
 
 pub returns-in_default : goal.returns-in_default
 returns-in_default c =
