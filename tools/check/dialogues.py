@@ -31,6 +31,7 @@ class Dialogue(NamedTuple):
 
 BEGUN = (b"HELO c\r\nMAIL FROM:<a@b>\r\nRCPT TO:<c@d>\r\nDATA\r\n", b"250 OK\r\n" * 3 + b"354 send the lines\r\n")
 MAIL = BEGUN[0] + b"Subject: x\r\n\r\n..dot\r\n.\r\nQUIT\r\n"
+ENVELOPE = b"Return-Path: <a@b>\r\nDelivered-To: c@d\r\n"
 MAILED = BEGUN[1] + b"250 OK\r\n221 bye\r\n"
 HELLO = (b"", b"220 ready\r\n")
 BAD = b"554 bad line\r\n"
@@ -230,9 +231,11 @@ class StoresMail(unittest.TestCase):
 
     BAD_MAIL = BEGUN[0] + b"caf\xe9\r\n.\r\n"
     TWO = BEGUN[0] + b"one\r\n..\r\n\r\n.\r\n" + BAD_MAIL + BEGUN[0] + b"two\n\r\n.\r\n" + BEGUN[0] + b"three\r\n.\r\n"
+    MANY = b"HELO c\r\nMAIL FROM:<>\r\nRCPT TO:<\"a b\"@c>\r\nRCPT TO:<Postmaster>\r\nDATA\r\n.\r\n"
     SAID = BEGUN[1] + OK + (BEGUN[1] + b"554 bad message\r\n") * 2 + BEGUN[1]
     ROWS = [
-        ([], TWO, SAID + OK, [b"one\r\n.\r\n\r\n", b"three\r\n"]),
+        ([], TWO, SAID + OK, [ENVELOPE + b"one\r\n.\r\n\r\n", ENVELOPE + b"three\r\n"]),
+        ([], MANY, OK * 4 + b"354 send the lines\r\n" + OK, [b"Return-Path: <>\r\nDelivered-To: \"a b\"@c\r\nDelivered-To: Postmaster\r\n"]),
         (["tmp"], BEGUN[0] + b"one\r\n.\r\nNOOP\r\n", BEGUN[1] + b"451 not stored\r\n" + OK, []),
         (["new"], BEGUN[0] + b"one\r\n.\r\nNOOP\r\n", BEGUN[1] + b"451 not stored\r\n" + OK, []),
     ]
@@ -291,7 +294,7 @@ class StoresInOrder(unittest.TestCase):
             except OSError as why:
                 self.skipTest(f"processes cannot be traced here: {why}")
         steps = self.steps(calls, folder)
-        stored = ["create tmp", self.TEXT, "sync tmp", "link tmp new", "sync new", "unlink tmp", "reply"]
+        stored = ["create tmp", ENVELOPE + self.TEXT, "sync tmp", "link tmp new", "sync new", "unlink tmp", "reply"]
         self.assertEqual(steps[steps.index("create tmp"):], stored * self.MAILS)
 
     @staticmethod

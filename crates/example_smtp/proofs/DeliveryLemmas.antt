@@ -23,7 +23,7 @@ use Rattle.example_smtp.specs.Commands.{ReadsCommand}
 use Rattle.example_smtp.specs.Deliveries.{AreExchanges, Brings, Delivers, Exchange, IsText, Sent}
 use Rattle.example_smtp.specs.Deliveries.{begun_after, ends, part_of}
 use Rattle.example_smtp.specs.Folder.{StoresIn}
-use Rattle.example_smtp.specs.Mail.{State, text_of_lines, unstuffed}
+use Rattle.example_smtp.specs.Mail.{State, file_of, text_of_lines, unstuffed}
 use Rattle.example_smtp.specs.Session.{AnswersAt, AnswersCommand, AnswersInput, AnswersLine, Ends}
 use Rattle.example_smtp.specs.Session.{Follows, RefusesAt, TakesLine, after, next_after}
 use Rattle.example_smtp.specs.Session.{or_rejected, refusal_of, reply_of_fault, reply_to}
@@ -51,9 +51,9 @@ Inside (Some sent) state =
 -- an exchange delivers messages, which the folder stores
 pub record Moves (old : State) (begun : Option Sent) (line : Option (List ℕ)) (said : Option Reply)
     (new : State) : Type 0 where
-  pub texts : List (List ℕ)
-  pub brings : Brings (part_of said) begun line texts
-  pub stored : StoresIn old.folder texts new.folder
+  pub mails : List (List ℕ)
+  pub brings : Brings (part_of said) begun line mails
+  pub stored : StoresIn old.folder mails new.folder
   pub inside : Inside (begun_after (part_of said) begun line) new
 
 module _ (old new : State) (begun : Option Sent) (line : Option (List ℕ)) (said : Option Reply)
@@ -62,7 +62,7 @@ module _ (old new : State) (begun : Option Sent) (line : Option (List ℕ)) (sai
     quiet : part_of said ≡ ends → new.stage ≢ Lines → StoresIn old.folder [] new.folder
         → Moves old begun line said new
     quiet part apart stored = record {
-      texts = [];
+      mails = [];
       brings = subst (λ p. Brings p begun line []) (sym part) refl;
       stored = stored;
       inside = subst (λ p. Inside (begun_after p begun line) new) (sym part) apart;
@@ -118,7 +118,7 @@ module _ (old new : State) (line : List ℕ) (said : Option Reply) (apart : old.
       → Moves old None (Some line) said new
   followed BeginLines is same = subst (λ r. Moves old None (Some line) r new) (sym is)
       (subst (λ s. Moves old None (Some line) (Some (reply_to BeginLines)) s) (sym same) (record {
-        texts = [];
+        mails = [];
         brings = refl;
         stored = in_none old.folder;
         inside = (refl, λ whole. ([], refl, refl));
@@ -193,7 +193,7 @@ module _ (old new : State) (sent : Sent) (said : Option Reply) (inside : Inside 
         → Moves old (Some sent) line said new
     goes_on line is other folder stage kept =
         subst (λ r. Moves old (Some sent) line r new) (sym is) (record {
-          texts = [];
+          mails = [];
           brings = (refl, other);
           stored = subst (λ f. StoresIn old.folder [] f) (sym folder) (in_none old.folder);
           inside = (stage ∙ inside.0, kept);
@@ -214,14 +214,18 @@ module _ (old new : State) (sent : Sent) (said : Option Reply) (inside : Inside 
           | inl done ↦
               subst (λ r. Moves old (Some sent) (Some (codes ".")) r new)
               (sym (is ∙ ap Some done.0)) (record {
-                texts = old.draft.text ∷ [];
-                brings = (old.draft.text, refl, inside.1 whole, refl);
+                mails = file_of old.draft ∷ [];
+                brings = (old.draft, refl, inside.1 whole, refl);
                 stored = done.1;
                 inside = apart;
               })
-          | inr failed ↦
+          | inr (inl failed) ↦
               quiet old new (Some sent) (Some (codes ".")) said
               (part_by said reply _ is failed.0 refl) apart failed.1
+          | inr (inr memory) ↦
+              quiet old new (Some sent) (Some (codes ".")) said
+              (part_by said reply _ is memory.0 refl) apart
+              (subst (λ f. StoresIn old.folder [] f) (sym memory.1) (in_none old.folder))
         ]
 
     -- a line that is kept, or ignored
@@ -328,22 +332,22 @@ module _ (first : ChannelState) (events : List Event) (endings : Endings) (size 
   pub record Tells (past : List Step) (begun : Option Sent) (old : State) (steps : List Step)
       (new : State) : Type 0 where
     pub exchanges : List Exchange
-    pub texts : List (List ℕ)
+    pub mails : List (List ℕ)
     pub are : AreExchanges first events past steps exchanges
-    pub delivers : Delivers begun exchanges texts
-    pub stored : StoresIn old.folder texts new.folder
+    pub delivers : Delivers begun exchanges mails
+    pub stored : StoresIn old.folder mails new.folder
 
   -- an exchange comes before others
   cons_exchange : (past : List Step) (begun : Option Sent) (old mid new : State)
       (line : Option (List ℕ)) (said : Option Reply) (exchanges : List Exchange)
-      (texts : List (List ℕ)) (moved : Moves old begun line said mid)
-      → Delivers (begun_after (part_of said) begun line) exchanges texts
-      → StoresIn mid.folder texts new.folder
-      → Delivers begun (record { line = line; reply = said } ∷ exchanges) (moved.texts ++ texts)
-      × StoresIn old.folder (moved.texts ++ texts) new.folder
-  cons_exchange past begun old mid new line said exchanges texts moved delivers stored = (
-    (moved.texts, texts, refl, moved.brings, delivers),
-    in_then old.folder mid.folder new.folder moved.texts texts moved.stored stored,
+      (mails : List (List ℕ)) (moved : Moves old begun line said mid)
+      → Delivers (begun_after (part_of said) begun line) exchanges mails
+      → StoresIn mid.folder mails new.folder
+      → Delivers begun (record { line = line; reply = said } ∷ exchanges) (moved.mails ++ mails)
+      × StoresIn old.folder (moved.mails ++ mails) new.folder
+  cons_exchange past begun old mid new line said exchanges mails moved delivers stored = (
+    (moved.mails, mails, refl, moved.brings, delivers),
+    in_then old.folder mid.folder new.folder moved.mails mails moved.stored stored,
   )
 
   -- the steps from a place on
@@ -354,7 +358,7 @@ module _ (first : ChannelState) (events : List Event) (endings : Endings) (size 
       → Tells past begun a.handler steps b.handler
   tells a b past [] begun inside same ordered = record {
     exchanges = [];
-    texts = [];
+    mails = [];
     are = refl;
     delivers = refl;
     stored = subst (λ (p : Place State). StoresIn a.handler.folder [] p.handler.folder) (sym same)
@@ -378,7 +382,7 @@ module _ (first : ChannelState) (events : List Event) (endings : Endings) (size 
           → Tells past begun a.handler (skipped bytes ∷ steps) b.handler
       passed bytes others = record {
         exchanges = others.exchanges;
-        texts = others.texts;
+        mails = others.mails;
         are = others.are;
         delivers = others.delivers;
         stored = others.stored;
@@ -388,7 +392,7 @@ module _ (first : ChannelState) (events : List Event) (endings : Endings) (size 
           → Tells past begun a.handler (sent_out ∷ steps) b.handler
       passed_sending others = record {
         exchanges = others.exchanges;
-        texts = others.texts;
+        mails = others.mails;
         are = others.are;
         delivers = others.delivers;
         stored = others.stored;
@@ -405,10 +409,10 @@ module _ (first : ChannelState) (events : List Event) (endings : Endings) (size 
           let moved = moves a.handler mid.handler said input begun inside answers in
           let others = rest (begun_after (part_of said) begun (Some input.body)) moved.inside in
           let more = cons_exchange past begun a.handler mid.handler b.handler (Some input.body)
-          said others.exchanges others.texts moved others.delivers others.stored in
+          said others.exchanges others.mails moved others.delivers others.stored in
           record {
             exchanges = record { line = Some input.body; reply = said } ∷ others.exchanges;
-            texts = moved.texts ++ others.texts;
+            mails = moved.mails ++ others.mails;
             are = (
               said,
               others.exchanges,
@@ -427,10 +431,10 @@ module _ (first : ChannelState) (events : List Event) (endings : Endings) (size 
           let moved = moves_rejected a.handler mid.handler said error begun inside refuses in
           let others = rest (begun_after (part_of said) begun None) moved.inside in
           let more = cons_exchange past begun a.handler mid.handler b.handler None said
-          others.exchanges others.texts moved others.delivers others.stored in
+          others.exchanges others.mails moved others.delivers others.stored in
           record {
             exchanges = record { line = None; reply = said } ∷ others.exchanges;
-            texts = moved.texts ++ others.texts;
+            mails = moved.mails ++ others.mails;
             are = (said, others.exchanges, is, refl, others.are);
             delivers = more.0;
             stored = more.1;

@@ -8,7 +8,7 @@ use Rattle.ascii_lines.specs.Replies.{Step, rejected, reply_bytes, took}
 use Rattle.ascii_lines.specs.Serve.{AreSentFirst, ChannelState, Wrote}
 use Rattle.ascii_lines.specs.declared.serving.Stop.{Stop}
 use Rattle.example_smtp.specs.Folder.{StoresIn}
-use Rattle.example_smtp.specs.Mail.{State, text_of_lines}
+use Rattle.example_smtp.specs.Mail.{Mail, State, file_of, text_of_lines}
 use Rattle.example_smtp.specs.Session.{reply_lines}
 use Rattle.example_smtp.specs.declared.commands.Reply.{Reply}
 use Rattle.example_smtp.specs.declared.commands.Reply.TheVariants.{Received, SendLines}
@@ -50,20 +50,20 @@ abbrev pub IsText : Sent → List ℕ → Type 0
 IsText sent text = (lines : List (List ℕ)) × (sent ≡ map Some lines)
     × (text ≡ text_of_lines lines)
 
--- the texts of the messages that an exchange with this line delivers: one, if it is a dot after the
--- lines of a message; no other exchange does
+-- the mails that an exchange with this line delivers: one, if it is a dot after the lines of a
+-- message, whose text is that of these; no other exchange does
 abbrev pub Brings : Part → Option Sent → Option (List ℕ) → List (List ℕ) → Type 0
-Brings delivers (Some sent) line texts =
-    (text : List ℕ) × (texts ≡ text ∷ []) × IsText sent text × (line ≡ Some (codes "."))
-Brings delivers None line texts = ⊥
-Brings goes_on (Some sent) line texts = (texts ≡ []) × (line ≢ Some (codes "."))
-Brings other begun line texts = texts ≡ []
+Brings delivers (Some sent) line mails = (mail : Mail) × (mails ≡ file_of mail ∷ [])
+    × IsText sent mail.text × (line ≡ Some (codes "."))
+Brings delivers None line mails = ⊥
+Brings goes_on (Some sent) line mails = (mails ≡ []) × (line ≢ Some (codes "."))
+Brings other begun line mails = mails ≡ []
 
--- the texts of the messages that exchanges deliver, after what was sent of one, if one is begun
+-- the mails that exchanges deliver, after what was sent of a message, if one is begun
 abbrev pub Delivers : Option Sent → List Exchange → List (List ℕ) → Type 0
-Delivers begun [] texts = texts ≡ []
-Delivers begun (exchange ∷ exchanges) texts = (first : List (List ℕ)) × (others : List (List ℕ))
-    × (texts ≡ first ++ others) × Brings (part_of exchange.reply) begun exchange.line first
+Delivers begun [] mails = mails ≡ []
+Delivers begun (exchange ∷ exchanges) mails = (first : List (List ℕ)) × (others : List (List ℕ))
+    × (mails ≡ first ++ others) × Brings (part_of exchange.reply) begun exchange.line first
     × Delivers (begun_after (part_of exchange.reply) begun exchange.line) exchanges others
 
 -- ---- the whole session
@@ -104,6 +104,6 @@ pub record Receives (old : ChannelState) (session : State) (why : Stop) (new : C
       (old.output.buffer.bytes ++ reply_bytes old.ending (said_in steps)) new.output
   pub exchanges : List Exchange
   pub are : AreExchanges old events [] steps exchanges
-  pub texts : List (List ℕ)
-  pub delivers : Delivers None exchanges texts
-  pub stored : StoresIn session.folder texts last.folder
+  pub mails : List (List ℕ)
+  pub delivers : Delivers None exchanges mails
+  pub stored : StoresIn session.folder mails last.folder

@@ -1,11 +1,11 @@
 -- A message, and the state of the session that receives it.
-use Rattle.std.specs.Prelude.{◌==◌, ℕ, List, [], ◌∷◌, ◌++◌, None, if◌then◌else◌, map}
+use Rattle.std.specs.Prelude.{◌==◌, ℕ, List, [], ◌∷◌, ◌++◌, None, codes, if◌then◌else◌, map}
 use Rattle.std.specs.List.{flat_map}
 use Rattle.std.specs.declared.option.Option.{Option}
 use Rattle.ascii.specs.StringState.{StringState}
 use Rattle.example_smtp.specs.Folder.{Contents}
 use Rattle.example_smtp.specs.declared.session.Fault.{Fault}
-use Rattle.example_smtp.specs.declared.session.Message.{Message}
+use Rattle.example_smtp.specs.declared.message.Message.{Message}
 use Rattle.example_smtp.specs.declared.session.Stage.{Stage}
 
 -- a message: its sender, its recipients and its text
@@ -22,6 +22,21 @@ unstuffed (code ∷ rest) = if code == 46 then rest else code ∷ rest
 -- the text of a message of these lines: each with dot-stuffing undone, and with CR LF
 abbrev pub text_of_lines : List (List ℕ) → List ℕ
 text_of_lines lines = flat_map (λ line. unstuffed line ++ 13 ∷ 10 ∷ []) lines
+
+-- the line of a file that says whom the mail comes from, and one that says whom it goes to
+abbrev pub return_path : List ℕ → List ℕ
+return_path sender = codes "Return-Path: <" ++ (sender ++ (codes ">" ++ 13 ∷ 10 ∷ []))
+
+abbrev pub delivered_to : List ℕ → List ℕ
+delivered_to recipient = codes "Delivered-To: " ++ (recipient ++ 13 ∷ 10 ∷ [])
+
+-- the lines before the text in the file of a message
+abbrev pub envelope_of : Mail → List ℕ
+envelope_of mail = return_path mail.sender ++ flat_map delivered_to mail.recipients
+
+-- the file of a message
+abbrev pub file_of : Mail → List ℕ
+file_of mail = envelope_of mail ++ mail.text
 
 -- the state of a session: what it awaits, the message that was begun, the first fault in its lines,
 -- if there is one, and what is in its folder, if it has one

@@ -14,7 +14,7 @@ use Rattle.ascii_lines.specs.declared.serving.Next.{Next}
 use Rattle.ascii_lines.specs.declared.serving.Next.TheVariants as next
 use Rattle.example_smtp.specs.Commands.{IsForeign, ReadsCommand, reply_line}
 use Rattle.example_smtp.specs.Folder.{StoresIn}
-use Rattle.example_smtp.specs.Mail.{State, idle, no_mail, unstuffed}
+use Rattle.example_smtp.specs.Mail.{State, file_of, idle, no_mail, unstuffed}
 use Rattle.example_smtp.specs.declared.commands.Command.{Command}
 use Rattle.example_smtp.specs.declared.commands.Command.TheVariants.{AddRecipient, BeginLines}
 use Rattle.example_smtp.specs.declared.commands.Command.TheVariants.{Introduce, Leave, Reset}
@@ -127,11 +127,12 @@ reply_of_fault Rejected = reply.BadMessage
 reply_of_fault TooLarge = reply.LargeMessage
 reply_of_fault NoMemory = reply.NoMemory
 
--- a message without a fault is stored, or could not be
+-- a message without a fault is stored, or could not be, or there is no memory for its envelope
 abbrev pub EndsWhole : State → Reply → State → Type 0
 EndsWhole old said new =
-    ((said ≡ reply.Received) × StoresIn old.folder (old.draft.text ∷ []) new.folder)
+    ((said ≡ reply.Received) × StoresIn old.folder (file_of old.draft ∷ []) new.folder)
     ⊎ ((said ≡ reply.NotStored) × StoresIn old.folder [] new.folder)
+    ⊎ ((said ≡ reply.NoMemory) × (new.folder ≡ old.folder))
 
 -- the message that was begun is ended with this reply, by its fault, and another may begin
 abbrev pub Ends : Option Fault → State → Reply → State → Type 0

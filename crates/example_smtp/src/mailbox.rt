@@ -35,15 +35,15 @@ impl<F: Folder> Mailbox<F> {
         Mailbox { folder, count: 0 }
     }
 
-    /// Stores a mail, under a name that no other mail has; or returns an error if a call failed, and then the folder
+    /// Stores a mail, the envelope before the text, under a name that no other mail has; or returns an error if a call failed, and then the folder
     /// has no other mail than before.
     #[tactic(auto, using(crate::proofs::FolderLemmas::stores_none, crate::proofs::FolderLemmas::stores_then))]
-    pub fn store(&mut self, text: AsciiStr<'_>) -> io::Result<()>
-        ensures ok { OnOk result (Stores self.old (text_of text.entry ∷ []) self.new) }
+    pub fn store(&mut self, envelope: AsciiStr<'_>, text: AsciiStr<'_>) -> io::Result<()>
+        ensures ok { OnOk result (Stores self.old ((text_of envelope.entry ++ text_of text.entry) ∷ []) self.new) }
         ensures err { OnErr result (Stores self.old [] self.new) }
     {
         for _ in 0..MOST_NAMES {
-            match self.store_once(text) {
+            match self.store_once(envelope, text) {
                 Ok(()) => return Ok(()),
                 Err(error) if error.kind() == ErrorKind::AlreadyExists => {}
                 Err(error) => return Err(error),
@@ -53,28 +53,30 @@ impl<F: Folder> Mailbox<F> {
     }
 
     /// Stores a mail under the next name, and removes what earlier calls left.
-    fn store_once(&mut self, text: AsciiStr<'_>) -> io::Result<()>
-        ensures ok { OnOk result (Stores self.old (text_of text.entry ∷ []) self.new) }
+    fn store_once(&mut self, envelope: AsciiStr<'_>, text: AsciiStr<'_>) -> io::Result<()>
+        ensures ok { OnOk result (Stores self.old ((text_of envelope.entry ++ text_of text.entry) ∷ []) self.new) }
         ensures err { OnErr result (Stores self.old [] self.new) }
     {
         self.count = self.count.wrapping_add(1);
         self.folder.unlink()?;
         self.folder.remove()?;
         self.folder.create(self.count)?;
-        let stored = self.publish(text);
+        let stored = self.publish(envelope, text);
         let _ = self.folder.remove();
         stored
     }
 
     /// Writes the mail to the draft, and gives it a name.
-    fn publish(&mut self, text: AsciiStr<'_>) -> io::Result<()>
+    fn publish(&mut self, envelope: AsciiStr<'_>, text: AsciiStr<'_>) -> io::Result<()>
         requires draft { self.old.drafts ≡ [] ∷ [] }
         requires named { self.old.links ≡ [] }
-        ensures ok { OnOk result ((self.new.mails ≡ self.old.mails ++ text_of text.entry ∷ [])
+        ensures ok { OnOk result ((self.new.mails ≡ self.old.mails
+            ++ (text_of envelope.entry ++ text_of text.entry) ∷ [])
             × (self.new.links ≡ []) × (self.old.failures ≤ self.new.failures)) }
         ensures err { OnErr result ((self.new.mails ≡ self.old.mails)
             × (self.old.failures < self.new.failures)) }
     {
+        self.folder.write(envelope)?;
         self.folder.write(text)?;
         self.folder.sync()?;
         self.folder.link(self.count)?;

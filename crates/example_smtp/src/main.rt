@@ -5,6 +5,7 @@
 mod commands;
 mod folder;
 mod mailbox;
+mod message;
 mod paths;
 mod receiving;
 mod session;

@@ -5,13 +5,13 @@ ghost use Rattle.ascii.specs.View.{text_of};
 ghost use Rattle.ascii_lines.specs.LineWriter.{line_with};
 ghost use Rattle.ascii_lines.specs.Replies.{IsRequest, Says};
 ghost use Rattle.example_smtp.specs.Folder.{StoresIn};
-ghost use Rattle.example_smtp.specs.Mail.{unstuffed};
 ghost use Rattle.example_smtp.specs.Session.{Fits, IsAllowed, next_after, refusal_of, reply_lines};
 ghost use Rattle.example_smtp.specs.Session.{reply_of_fault, reply_to, reset_stage};
 
 use crate::commands::{Command, Reply, is_foreign, read_command};
 use crate::folder::Folder;
 use crate::mailbox::Mailbox;
+use crate::message::{Message, append_line, unstuff};
 use ascii_lines::{AsciiStr, AsciiString, Ending, Handler, LineError, Next, Replies, Sink};
 use std::alloc::{AllocError, Allocator, Global};
 use std::marker::Model;
@@ -47,29 +47,6 @@ pub enum Fault {
     TooLarge,
     /// There was no memory for it.
     NoMemory,
-}
-
-/// A message: its text has each line with CR LF.
-#[derive(Drop)]
-pub struct Message {
-    sender: AsciiString,
-    recipients: Vec<AsciiString>,
-    text: AsciiString,
-}
-
-impl Message {
-    ghost use Rattle.example_smtp.specs.Mail.{mail_of, no_mail};
-
-    /// Creates a message with nothing in it. Does not allocate.
-    fn new(alloc: Global) -> Message
-        ensures { mail_of result ≡ no_mail }
-    {
-        Message {
-            sender: AsciiString::new(alloc),
-            recipients: Vec::new(alloc),
-            text: AsciiString::new(alloc),
-        }
-    }
 }
 
 /// What is awaited, the message that was begun, and where messages are stored.
@@ -253,7 +230,14 @@ impl<F: Folder> Session<F> {
             self.fault = None;
             return reply_of_fault(fault);
         }
-        if !store(&mut self.mailbox, draft.text.as_ascii_str()) {
+        let Ok(envelope) = draft.envelope(self.alloc) else {
+            return Reply::NoMemory;
+        };
+        if !store(
+            &mut self.mailbox,
+            envelope.as_ascii_str(),
+            draft.text.as_ascii_str(),
+        ) {
             return Reply::NotStored;
         }
         self.count = self.count.saturating_add(1);
@@ -324,23 +308,19 @@ fn next_of(reply: Option<Reply>) -> Next
 }
 
 /// Stores a message in the mailbox, and returns whether that was done; without a mailbox it is.
-fn store<F: Folder>(mailbox: &mut Option<Mailbox<F>>, text: AsciiStr<'_>) -> bool
-    ensures stored { IsTrue result → StoresIn mailbox.old (text_of text.entry ∷ []) mailbox.new }
+fn store<F: Folder>(
+    mailbox: &mut Option<Mailbox<F>>,
+    envelope: AsciiStr<'_>,
+    text: AsciiStr<'_>,
+) -> bool
+    ensures stored { IsTrue result → StoresIn mailbox.old
+        ((text_of envelope.entry ++ text_of text.entry) ∷ []) mailbox.new }
     ensures kept { ¬ (IsTrue result) → StoresIn mailbox.old [] mailbox.new }
 {
     match mailbox {
-        Some(mailbox) => mailbox.store(text).is_ok(),
+        Some(mailbox) => mailbox.store(envelope, text).is_ok(),
         None => true,
     }
-}
-
-/// Appends a line and CR LF, or returns an error if an allocation fails; then a part of it may be there.
-fn append_line(text: &mut AsciiString, line: AsciiStr<'_>) -> Result<(), AllocError>
-    ensures { OnOk result
-        (text.new.text ≡ text.old.text ++ (text_of line.entry ++ 13 ∷ 10 ∷ [])) }
-{
-    text.push_str(line)?;
-    text.push_str(AsciiStr::literal("\r\n"))
 }
 
 /// Returns the reply to the dot of a message with a fault.
@@ -406,15 +386,5 @@ fn reply_of(command: Command<'_>) -> Reply
         Command::Verify { .. } => Reply::Unverified,
         Command::Leave => Reply::Bye,
         _ => Reply::Done,
-    }
-}
-
-/// Returns a line of a message with dot-stuffing undone.
-fn unstuff<'a>(sent: AsciiStr<'a>) -> AsciiStr<'a>
-    ensures { text_of result ≡ unstuffed (text_of sent.entry) }
-{
-    match sent.strip_prefix(AsciiStr::literal(".")) {
-        Some(line) => line,
-        None => sent,
     }
 }

@@ -26,7 +26,7 @@ returns g c =
       wrote = served.wrote;
       exchanges = told.exchanges;
       are = told.are;
-      texts = told.texts;
+      mails = told.mails;
       delivers = told.delivers;
       stored = told.stored;
     }

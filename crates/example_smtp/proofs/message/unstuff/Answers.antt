@@ -3,7 +3,7 @@ use Rattle.std.proofs.lemmas.Bool.Decides.{nat_tests}
 use Rattle.ascii.specs.Search.{StartsWith}
 use Rattle.ascii.specs.View.{text_of}
 use Rattle.example_smtp.specs.Mail.{unstuffed}
-use Rattle.example_smtp.proofs.session.unstuff.Goals as goal
+use Rattle.example_smtp.proofs.message.unstuff.Goals as goal
 
 -- a line that does not begin with a dot
 plain : (text : List ℕ) → ¬ (StartsWith (46 ∷ []) text) → text ≡ unstuffed text

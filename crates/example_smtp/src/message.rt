@@ -1,0 +1,78 @@
+//! A message, and the lines of it.
+
+ghost use Rattle.std.specs.Prelude.{◌≡◌, ◌∷◌, ◌++◌, [], IfOk, OnOk};
+ghost use Rattle.std.specs.List.{flat_map};
+ghost use Rattle.ascii.specs.View.{text_of};
+ghost use Rattle.example_smtp.specs.Mail.{delivered_to, string_texts, unstuffed};
+
+use ascii_lines::{AsciiStr, AsciiString};
+use std::alloc::{AllocError, Global};
+
+/// A message: its text has each line with CR LF.
+#[derive(Drop)]
+pub struct Message {
+    pub sender: AsciiString,
+    pub recipients: Vec<AsciiString>,
+    pub text: AsciiString,
+}
+
+impl Message {
+    ghost use Rattle.example_smtp.specs.Mail.{envelope_of, mail_of, no_mail};
+
+    /// Creates a message with nothing in it. Does not allocate.
+    pub fn new(alloc: Global) -> Message
+        ensures { mail_of result ≡ no_mail }
+    {
+        Message {
+            sender: AsciiString::new(alloc),
+            recipients: Vec::new(alloc),
+            text: AsciiString::new(alloc),
+        }
+    }
+
+    /// Returns the lines before the text in the file of the message, or an error if an allocation fails.
+    pub fn envelope(&self, alloc: Global) -> Result<AsciiString, AllocError>
+        ensures { IfOk result (λ envelope. envelope.text ≡ envelope_of (mail_of self.now)) }
+    {
+        let mut envelope = AsciiString::new(alloc);
+        envelope.push_str(AsciiStr::literal("Return-Path: <"))?;
+        envelope.push_str(self.sender.as_ascii_str())?;
+        append_line(&mut envelope, AsciiStr::literal(">"))?;
+        append_recipients(&mut envelope, &self.recipients)?;
+        Ok(envelope)
+    }
+}
+
+/// Appends a line for each recipient, or returns an error if an allocation fails.
+fn append_recipients(
+    envelope: &mut AsciiString,
+    recipients: &[AsciiString],
+) -> Result<(), AllocError>
+    ensures { OnOk result (envelope.new.text
+        ≡ envelope.old.text ++ flat_map delivered_to (string_texts recipients.now)) }
+{
+    for recipient in recipients {
+        envelope.push_str(AsciiStr::literal("Delivered-To: "))?;
+        append_line(envelope, recipient.as_ascii_str())?;
+    }
+    Ok(())
+}
+
+/// Appends a line and CR LF, or returns an error if an allocation fails; then a part of it may be there.
+pub fn append_line(text: &mut AsciiString, line: AsciiStr<'_>) -> Result<(), AllocError>
+    ensures { OnOk result
+        (text.new.text ≡ text.old.text ++ (text_of line.entry ++ 13 ∷ 10 ∷ [])) }
+{
+    text.push_str(line)?;
+    text.push_str(AsciiStr::literal("\r\n"))
+}
+
+/// Returns a line of a message with dot-stuffing undone.
+pub fn unstuff<'a>(sent: AsciiStr<'a>) -> AsciiStr<'a>
+    ensures { text_of result ≡ unstuffed (text_of sent.entry) }
+{
+    match sent.strip_prefix(AsciiStr::literal(".")) {
+        Some(line) => line,
+        None => sent,
+    }
+}
