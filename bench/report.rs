@@ -547,7 +547,7 @@ where the kernel gives huge pages on request).
 ## Servers
 
 The store of `example_resp` beside redis-server. One client in Python sets random keys over one connection, and then asks
-for the same keys; its own time is part of each number. The mail server of `example_smtp` gets one mail of 64 MiB in
+for the same keys; its own time is part of each number. The mail server of `example_smtp` gets one mail of 16 MiB in
 lines of 72 bytes.
 
 {servers}

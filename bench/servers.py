@@ -4,7 +4,7 @@ usage: bench/servers.py ROUNDS
 
 Requests a second of one client over one connection: the best of ROUNDS, ours and redis-server in turn, each with a
 store that is empty at first. The client sets random keys, and asks the same connection for these keys in another order;
-each reply is compared. Both ends of a connection send at once (TCP_NODELAY). For a mail of 64 MiB: milliseconds of CPU
+each reply is compared. Both ends of a connection send at once (TCP_NODELAY). For a mail of 16 MiB: milliseconds of CPU
 time, the minimum of ROUNDS, and MiB of memory at the peak. The programs are those of crates/*/out. If redis-server is
 not installed, the store is left out, and standard error says so.
 """
@@ -25,7 +25,7 @@ from dialogues import BEGUN, received, start  # noqa: E402
 
 KEYS, REQUESTS, SIZES = 10_000, 32_000, (3, 100, 1000)  # the sizes are those of a value, in bytes
 PASSES = {1: 1, 16: 5, 64: 10}  # over the requests, by how many are sent together
-LINES = 932_068  # of 70 characters with CR LF: 64 MiB
+LINES = 233_016  # of 70 characters with CR LF: 16 MiB
 LINE = b"x" * 70 + b"\r\n"
 
 
@@ -116,7 +116,7 @@ def measure_store(rounds):
 
 
 def send_mail():
-    """Sends a mail of 64 MiB, and returns milliseconds of CPU time and MiB of memory at the peak."""
+    """Sends a mail of 16 MiB, and returns milliseconds of CPU time and MiB of memory at the peak."""
     client, server = socket.socketpair()
     with client:
         process = start("example_smtp", server)
@@ -144,8 +144,8 @@ def main():
         measure_store(rounds)
     else:
         print("bench/servers.py: not here, and left out: redis-server", file=sys.stderr)
-    print("mail of 64 MiB: ms of CPU time", round(min(times)), "", sep="\t")
-    print("mail of 64 MiB: MiB of memory", round(max(peaks)), "", sep="\t")
+    print("mail of 16 MiB: ms of CPU time", round(min(times)), "", sep="\t")
+    print("mail of 16 MiB: MiB of memory", round(max(peaks)), "", sep="\t")
 
 
 if __name__ == "__main__":

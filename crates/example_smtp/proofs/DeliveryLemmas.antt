@@ -26,16 +26,16 @@ use Rattle.example_smtp.specs.Folder.{StoresIn}
 use Rattle.example_smtp.specs.Mail.{State, file_of, text_of_lines, unstuffed}
 use Rattle.example_smtp.specs.Session.{AnswersAt, AnswersCommand, AnswersInput, AnswersLine, Ends}
 use Rattle.example_smtp.specs.Session.{Follows, RefusesAt, TakesLine, after, next_after}
-use Rattle.example_smtp.specs.Session.{or_rejected, refusal_of, reply_of_fault, reply_to}
+use Rattle.example_smtp.specs.Session.{first_fault, refusal_of, reply_of_fault, reply_to}
 use Rattle.example_smtp.specs.Session.{reset_stage, session_answers, session_refuses}
 use Rattle.example_smtp.specs.declared.commands.Command.{Command}
-use Rattle.example_smtp.specs.declared.commands.Command.TheVariants.{AddRecipient, BeginLines}
+use Rattle.example_smtp.specs.declared.commands.Command.TheVariants.{AddRecipient, BeginLines, Extend}
 use Rattle.example_smtp.specs.declared.commands.Command.TheVariants.{Introduce, Leave, Reset}
 use Rattle.example_smtp.specs.declared.commands.Command.TheVariants.{SetSender, Verify}
 use Rattle.example_smtp.specs.declared.commands.Command.TheVariants as command
 use Rattle.example_smtp.specs.declared.commands.Reply.{Reply}
 use Rattle.example_smtp.specs.declared.session.Fault.{Fault}
-use Rattle.example_smtp.specs.declared.session.Fault.TheVariants.{NoMemory, Rejected, TooLarge}
+use Rattle.example_smtp.specs.declared.session.Fault.TheVariants.{NoMemory, OtherBytes, Rejected, TooLarge}
 use Rattle.example_smtp.specs.declared.session.Stage.{Stage}
 use Rattle.example_smtp.specs.declared.session.Stage.TheVariants.{Greeting, Lines, Ready}
 use Rattle.example_smtp.specs.declared.session.Stage.TheVariants.{Recipients, Sender}
@@ -99,6 +99,7 @@ refusal_part error.Read = refl
 -- a message with a fault is dropped
 fault_part : (fault : Fault) → part_of (Some (reply_of_fault fault)) ≡ ends
 fault_part Rejected = refl
+fault_part OtherBytes = refl
 fault_part TooLarge = refl
 fault_part NoMemory = refl
 
@@ -125,6 +126,7 @@ module _ (old new : State) (line : List ℕ) (said : Option Reply) (apart : old.
       }))
   followed (Introduce domain) is same =
       carried (Introduce domain) is same refl (λ l. cc) refl
+  followed (Extend domain) is same = carried (Extend domain) is same refl (λ l. cc) refl
   followed (SetSender address) is same =
       carried (SetSender address) is same refl (λ l. cc) refl
   followed (AddRecipient address) is same =
@@ -271,7 +273,7 @@ module _ (old new : State) (sent : Sent) (said : Option Reply) (inside : Inside 
     refused error (silent, same) =
         goes_on None silent (λ is. cc) (ap (λ (s : State). s.folder) same)
         (ap (λ (s : State). s.stage) same)
-        (λ none. let e : None ≡ Some (or_rejected old.fault) =
+        (λ none. let e : None ≡ Some (first_fault old.fault error) =
         sym none ∙ ap (λ (s : State). s.fault) same in cc)
 
 -- ---- any exchange

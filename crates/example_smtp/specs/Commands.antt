@@ -1,5 +1,5 @@
 -- The commands of a client, the lines that say them, and the lines that reply to them.
-use Rattle.std.specs.Prelude.{◌≡◌, ◌≢◌, ◌⊎◌, ℕ, List, [], MatchResult, codes}
+use Rattle.std.specs.Prelude.{◌≡◌, ◌≢◌, ◌⊎◌, ℕ, List, [], ◌∷◌, ◌++◌, MatchResult, codes}
 use Rattle.std.specs.declared.result.Result.{Result}
 use Rattle.ascii.specs.Class.{IsBlank}
 use Rattle.ascii.specs.Search.{IgnoringCase, IsPrefix, StartsWith}
@@ -7,7 +7,7 @@ use Rattle.ascii.specs.Trim.{TrimsEnd}
 use Rattle.ascii.specs.View.{text_of}
 use Rattle.example_smtp.specs.Paths.{IsBetween, IsRecipient, IsSender}
 use Rattle.example_smtp.specs.declared.commands.Command.{Command}
-use Rattle.example_smtp.specs.declared.commands.Command.TheVariants.{AddRecipient, BeginLines}
+use Rattle.example_smtp.specs.declared.commands.Command.TheVariants.{AddRecipient, BeginLines, Extend}
 use Rattle.example_smtp.specs.declared.commands.Command.TheVariants.{Introduce, Leave, Reset}
 use Rattle.example_smtp.specs.declared.commands.Command.TheVariants.{SetSender, Verify}
 use Rattle.example_smtp.specs.declared.commands.Command.TheVariants as command
@@ -50,8 +50,8 @@ IsArgument verb argument = argument ≡ []
 
 -- `command` is the verb `verb` with the argument `argument`
 abbrev pub HasParts : Verb → List ℕ → Command → Type 0
-HasParts verb argument (Introduce domain) =
-    ((verb ≡ Helo) ⊎ (verb ≡ Ehlo)) × IsWord (text_of domain) argument
+HasParts verb argument (Introduce domain) = (verb ≡ Helo) × IsWord (text_of domain) argument
+HasParts verb argument (Extend domain) = (verb ≡ Ehlo) × IsWord (text_of domain) argument
 HasParts verb argument (SetSender address) =
     (verb ≡ Mail) × IsPath (text_of address) argument × IsSender (text_of address)
 HasParts verb argument (AddRecipient address) =
@@ -103,10 +103,11 @@ IsForeign line = StartsWith (codes "GET ") line ⊎ StartsWith (codes "POST ") l
     ⊎ StartsWith (codes "PUT ") line ⊎ StartsWith (codes "HEAD ") line
     ⊎ StartsWith (codes "CONNECT ") line
 
--- the line of a reply
+-- the line of a reply, or its lines
 abbrev pub reply_line : Reply → List ℕ
 reply_line reply.Bye = codes "221 bye"
 reply_line reply.Done = codes "250 OK"
+reply_line reply.Extensions = codes "250-localhost" ++ 13 ∷ 10 ∷ codes "250 PIPELINING"
 reply_line reply.Received = codes "250 OK"
 reply_line reply.SendLines = codes "354 send the lines"
 reply_line reply.Unverified = codes "252 not verified"
@@ -119,6 +120,7 @@ reply_line reply.BadLine = codes "554 bad line"
 reply_line reply.CutOff = codes "554 bad line"
 reply_line reply.NoMemory = codes "452 out of memory"
 reply_line reply.BadMessage = codes "554 bad message"
+reply_line reply.OtherBytes = codes "554 the message is not ASCII"
 reply_line reply.LargeMessage = codes "552 message too large"
 reply_line reply.NotStored = codes "451 not stored"
 reply_line reply.Closing = codes "421 closing"

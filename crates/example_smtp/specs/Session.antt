@@ -16,13 +16,13 @@ use Rattle.example_smtp.specs.Commands.{IsForeign, ReadsCommand, reply_line}
 use Rattle.example_smtp.specs.Folder.{StoresIn}
 use Rattle.example_smtp.specs.Mail.{State, file_of, idle, no_mail, unstuffed}
 use Rattle.example_smtp.specs.declared.commands.Command.{Command}
-use Rattle.example_smtp.specs.declared.commands.Command.TheVariants.{AddRecipient, BeginLines}
+use Rattle.example_smtp.specs.declared.commands.Command.TheVariants.{AddRecipient, BeginLines, Extend}
 use Rattle.example_smtp.specs.declared.commands.Command.TheVariants.{Introduce, Leave, Reset}
 use Rattle.example_smtp.specs.declared.commands.Command.TheVariants.{SetSender, Verify}
 use Rattle.example_smtp.specs.declared.commands.Reply.{Reply}
 use Rattle.example_smtp.specs.declared.commands.Reply.TheVariants as reply
 use Rattle.example_smtp.specs.declared.session.Fault.{Fault}
-use Rattle.example_smtp.specs.declared.session.Fault.TheVariants.{NoMemory, Rejected, TooLarge}
+use Rattle.example_smtp.specs.declared.session.Fault.TheVariants.{NoMemory, OtherBytes, Rejected, TooLarge}
 use Rattle.example_smtp.specs.declared.session.Stage.{Stage}
 use Rattle.example_smtp.specs.declared.session.Stage.TheVariants.{Greeting, Lines, Ready}
 use Rattle.example_smtp.specs.declared.session.Stage.TheVariants.{Recipients, Sender}
@@ -38,7 +38,7 @@ IsAllowed stage other = ⊤
 
 -- the most recipients of a message
 abbrev pub most_recipients : ℕ
-most_recipients = 100
+most_recipients = 1000
 
 -- a message with this number of recipients takes the command: if it adds one, there may be one more
 abbrev pub Fits : ℕ → Command → Type 0
@@ -50,6 +50,7 @@ abbrev pub reply_to : Command → Reply
 reply_to BeginLines = reply.SendLines
 reply_to (Verify mailbox) = reply.Unverified
 reply_to Leave = reply.Bye
+reply_to (Extend domain) = reply.Extensions
 reply_to other = reply.Done
 
 -- the stage after a draft is dropped: a client that has not introduced itself still has to
@@ -60,6 +61,7 @@ reset_stage other = Ready
 -- the state after a command that is allowed
 abbrev pub after : State → Command → State
 after old (Introduce domain) = record old { stage = Ready; draft = no_mail }
+after old (Extend domain) = record old { stage = Ready; draft = no_mail }
 after old (SetSender address) =
     record old { stage = Sender; draft = record no_mail { sender = text_of address } }
 after old (AddRecipient address) = record old {
@@ -102,7 +104,7 @@ AnswersCommand old line said new = (IsStranger old line × (said ≡ reply.Closi
 
 -- the most bytes of the text of a message
 abbrev pub most_bytes : ℕ
-most_bytes = 134217728
+most_bytes = 16777216
 
 -- the message has a fault, and its text is dropped
 abbrev pub spoiled : State → Fault → State
@@ -124,6 +126,7 @@ TakesLine (Some fault) old sent new = new ≡ old
 -- the reply to the dot of a message with a fault
 abbrev pub reply_of_fault : Fault → Reply
 reply_of_fault Rejected = reply.BadMessage
+reply_of_fault OtherBytes = reply.OtherBytes
 reply_of_fault TooLarge = reply.LargeMessage
 reply_of_fault NoMemory = reply.NoMemory
 
@@ -166,16 +169,21 @@ refusal_of (NotAscii place) = reply.BadLine
 refusal_of (LoneBreak place) = reply.BadLine
 refusal_of other = reply.Closing
 
--- the first fault of a message, of which a line is rejected
-abbrev pub or_rejected : Option Fault → Fault
-or_rejected None = Rejected
-or_rejected (Some fault) = fault
+-- the fault of a message, of which a line is rejected for this error
+abbrev pub fault_of : LineError → Fault
+fault_of (NotAscii place) = OtherBytes
+fault_of other = Rejected
+
+-- the first fault of a message, which may have had one before this error
+abbrev pub first_fault : Option Fault → LineError → Fault
+first_fault None error = fault_of error
+first_fault (Some fault) error = fault
 
 -- the reply to an error in place of a line, by what is awaited: a message has a fault from then on,
 -- and is not answered before its end
 abbrev pub RefusesAt : Stage → State → LineError → Option Reply → State → Type 0
 RefusesAt Lines old error said new =
-    (said ≡ None) × (new ≡ record old { fault = Some (or_rejected old.fault) })
+    (said ≡ None) × (new ≡ record old { fault = Some (first_fault old.fault error) })
 RefusesAt other old error said new = (said ≡ Some (refusal_of error)) × (new ≡ old)
 
 -- what is asked for after a reply

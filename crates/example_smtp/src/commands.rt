@@ -16,7 +16,7 @@ use ascii_lines::AsciiStr;
 pub enum Verb {
     /// Introduces the client.
     Helo,
-    /// Introduces the client, which asks for extensions; there are none.
+    /// Introduces the client, which asks for the extensions.
     Ehlo,
     /// Begins a message with its sender.
     Mail,
@@ -58,6 +58,8 @@ impl Verb {
 pub enum Command<'a> {
     /// Introduces the client by its domain.
     Introduce { domain: AsciiStr<'a> },
+    /// Introduces the client by its domain, and asks for the extensions.
+    Extend { domain: AsciiStr<'a> },
     /// Begins a message with this sender.
     SetSender { address: AsciiStr<'a> },
     /// Adds this recipient.
@@ -81,6 +83,8 @@ pub enum Reply {
     Bye,
     /// The command was carried out.
     Done,
+    /// The extensions: commands may be sent together.
+    Extensions,
     /// The message was stored.
     Received,
     /// The lines of the message may come.
@@ -105,6 +109,8 @@ pub enum Reply {
     NoMemory,
     /// A line of the message was rejected, so the message is.
     BadMessage,
+    /// A line of the message is not ASCII.
+    OtherBytes,
     /// The message is too large.
     LargeMessage,
     /// The message could not be stored.
@@ -114,13 +120,14 @@ pub enum Reply {
 }
 
 impl Reply {
-    /// Returns the line of the reply.
+    /// Returns the line of the reply, or its lines.
     pub fn line(self) -> AsciiStr<'static>
         ensures { text_of result ≡ reply_line self }
     {
         match self {
             Reply::Bye => AsciiStr::literal("221 bye"),
             Reply::Done => AsciiStr::literal("250 OK"),
+            Reply::Extensions => AsciiStr::literal("250-localhost\r\n250 PIPELINING"),
             Reply::Received => AsciiStr::literal("250 OK"),
             Reply::SendLines => AsciiStr::literal("354 send the lines"),
             Reply::Unverified => AsciiStr::literal("252 not verified"),
@@ -133,6 +140,7 @@ impl Reply {
             Reply::CutOff => AsciiStr::literal("554 bad line"),
             Reply::NoMemory => AsciiStr::literal("452 out of memory"),
             Reply::BadMessage => AsciiStr::literal("554 bad message"),
+            Reply::OtherBytes => AsciiStr::literal("554 the message is not ASCII"),
             Reply::LargeMessage => AsciiStr::literal("552 message too large"),
             Reply::NotStored => AsciiStr::literal("451 not stored"),
             Reply::Closing => AsciiStr::literal("421 closing"),
@@ -214,8 +222,12 @@ fn command_of<'a>(verb: Verb, argument: AsciiStr<'a>) -> Result<Command<'a>, Rep
         (IsPartsFault verb (text_of argument.entry)) }
 {
     match verb {
-        Verb::Helo | Verb::Ehlo => match word_of(argument) {
+        Verb::Helo => match word_of(argument) {
             Some(domain) => Ok(Command::Introduce { domain }),
+            None => Err(Reply::BadArgument),
+        },
+        Verb::Ehlo => match word_of(argument) {
+            Some(domain) => Ok(Command::Extend { domain }),
             None => Err(Reply::BadArgument),
         },
         Verb::Mail => match address_of(argument) {

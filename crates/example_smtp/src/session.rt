@@ -5,8 +5,8 @@ ghost use Rattle.ascii.specs.View.{text_of};
 ghost use Rattle.ascii_lines.specs.LineWriter.{line_with};
 ghost use Rattle.ascii_lines.specs.Replies.{IsRequest, Says};
 ghost use Rattle.example_smtp.specs.Folder.{StoresIn};
-ghost use Rattle.example_smtp.specs.Session.{Fits, IsAllowed, next_after, refusal_of, reply_lines};
-ghost use Rattle.example_smtp.specs.Session.{reply_of_fault, reply_to, reset_stage};
+ghost use Rattle.example_smtp.specs.Session.{Fits, IsAllowed, fault_of, next_after, refusal_of};
+ghost use Rattle.example_smtp.specs.Session.{reply_lines, reply_of_fault, reply_to, reset_stage};
 
 use crate::commands::{Command, Reply, is_foreign, read_command};
 use crate::folder::Folder;
@@ -18,10 +18,10 @@ use std::marker::Model;
 use std::mem::replace;
 
 /// The most recipients of a message.
-const MOST_RECIPIENTS: usize = 100;
+const MOST_RECIPIENTS: usize = 1_000;
 
 /// The most bytes of the text of a message.
-const MOST_BYTES: usize = 134_217_728;
+const MOST_BYTES: usize = 16_777_216;
 
 /// What a session awaits.
 #[derive(Clone, Copy, PartialEq, Eq, Debug)]
@@ -43,6 +43,8 @@ pub enum Stage {
 pub enum Fault {
     /// A line of it was rejected.
     Rejected,
+    /// A line of it is not ASCII.
+    OtherBytes,
     /// It is too large.
     TooLarge,
     /// There was no memory for it.
@@ -158,7 +160,7 @@ impl<F: Folder> Session<F> {
         ensures kept { OnErr result (self.new ≡ self.old) }
     {
         match command {
-            Command::Introduce { .. } => {
+            Command::Introduce { .. } | Command::Extend { .. } => {
                 self.draft = Message::new(self.alloc);
                 self.stage = Stage::Ready;
             }
@@ -249,7 +251,7 @@ impl<F: Folder> Session<F> {
         ensures { RefusesAt self.old.stage self.old error result self.new }
     {
         if self.stage == Stage::Lines {
-            self.fault = Some(self.fault.unwrap_or(Fault::Rejected));
+            self.fault = Some(self.fault.unwrap_or(fault_of(error)));
             return None;
         }
         Some(refusal(error))
@@ -290,7 +292,7 @@ fn say<K: Sink, A: Allocator>(reply: Option<Reply>, replies: &mut Replies<K, A>)
     ensures request { IsRequest result }
 {
     if let Some(reply) = reply {
-        replies.fixed_line(reply.line());
+        replies.text(reply.line());
     }
     next_of(reply)
 }
@@ -329,8 +331,19 @@ fn reply_of_fault(fault: Fault) -> Reply
 {
     match fault {
         Fault::Rejected => Reply::BadMessage,
+        Fault::OtherBytes => Reply::OtherBytes,
         Fault::TooLarge => Reply::LargeMessage,
         Fault::NoMemory => Reply::NoMemory,
+    }
+}
+
+/// Returns the fault of a message of which a line is rejected for this error.
+fn fault_of(error: LineError) -> Fault
+    ensures { result ≡ fault_of error }
+{
+    match error {
+        LineError::NotAscii(_) => Fault::OtherBytes,
+        _ => Fault::Rejected,
     }
 }
 
@@ -385,6 +398,7 @@ fn reply_of(command: Command<'_>) -> Reply
         Command::BeginLines => Reply::SendLines,
         Command::Verify { .. } => Reply::Unverified,
         Command::Leave => Reply::Bye,
+        Command::Extend { .. } => Reply::Extensions,
         _ => Reply::Done,
     }
 }
