@@ -38,6 +38,7 @@ BAD = b"554 bad line\r\n"
 FULL = b"452 too many recipients\r\n"
 OK = b"250 OK\r\n"
 ARGUMENT, NO_VRFY = b"501 bad argument\r\n", b"252 not verified\r\n"
+PARAMETER = b"555 unknown parameter\r\n"
 DROPPED = b"554 bad message\r\n221 bye\r\n"
 OTHER_BYTES, EXTENSIONS = b"554 the message is not ASCII\r\n", b"250-localhost\r\n250 PIPELINING\r\n"
 LARGE = b"552 message too large\r\n"
@@ -106,6 +107,7 @@ DIALOGUES = [
     mail("a message of the most bytes", BEGUN, *[(THOUSAND * 1000, b"")] * 16, (THOUSAND * 777 + b"x" * 214 + b"\r\n.\r\n", OK)),
     mail("a message of a byte more", BEGUN, *[(THOUSAND * 1000, b"")] * 16, (THOUSAND * 777 + b"x" * 215 + b"\r\n.\r\n" + MAIL, LARGE + MAILED)),
     mail("a client that asks for extensions", (b"EHLO c\r\nEHLO \r\n", EXTENSIONS + ARGUMENT)),
+    mail("parameters after a path", (b"HELO c\r\nMAIL FROM:<a@b> SIZE=1\r\nMAIL FROM:<a@b>\r\nRCPT TO:<c@d> NOTIFY=NEVER\r\n", OK + PARAMETER + OK + PARAMETER)),
     mail("commands without an argument", (b"HELO\r\nEHLO\r\nVRFY\r\nHELO  \r\nVRFY \t\r\n", ARGUMENT * 5)),
     mail("white space after a command", (b"HELO c \t\r\nMAIL FROM:<a@b> \r\nRCPT TO:<c@d>\t\r\nDATA  \r\n. \r\n.\r\n", BEGUN[1] + OK),
          (b"VRFY c \r\nRSET \r\nNOOP\t\r\nQUIT \r\n", NO_VRFY + OK * 2 + b"221 bye\r\n")),

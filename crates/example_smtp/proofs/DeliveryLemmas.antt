@@ -154,8 +154,14 @@ module _ (old new : State) (line : List ℕ) (said : Option Reply) (apart : old.
   by_outcome reply is (Err fault) faulty (said_it, same) = elim faulty [
     | inl unknown ↦ stays old new None (Some line) said
         (part_by said reply _ is (said_it ∙ unknown.0) refl) apart same
-    | inr bad ↦ stays old new None (Some line) said
-        (part_by said reply _ is (said_it ∙ bad.5.0) refl) apart same
+    | inr bad ↦ elim bad.6 [
+      | inl parameter ↦
+          stays old new None (Some line) said
+          (part_by said reply _ is (said_it ∙ parameter.1) refl) apart same
+      | inr argument ↦
+          stays old new None (Some line) said
+          (part_by said reply _ is (said_it ∙ argument.1) refl) apart same
+    ]
   ]
 
   -- a line outside a message

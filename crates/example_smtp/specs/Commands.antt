@@ -2,7 +2,7 @@
 use Rattle.std.specs.Prelude.{◌≡◌, ◌≢◌, ◌⊎◌, ℕ, List, [], ◌∷◌, ◌++◌, MatchResult, codes}
 use Rattle.std.specs.declared.result.Result.{Result}
 use Rattle.ascii.specs.Class.{IsBlank}
-use Rattle.ascii.specs.Search.{IgnoringCase, IsPrefix, StartsWith}
+use Rattle.ascii.specs.Search.{ContainsText, IgnoringCase, IsPrefix, StartsWith}
 use Rattle.ascii.specs.Trim.{TrimsEnd}
 use Rattle.ascii.specs.View.{text_of}
 use Rattle.example_smtp.specs.Paths.{IsBetween, IsRecipient, IsSender}
@@ -64,9 +64,11 @@ HasParts verb argument command.Reply =
     (verb ≡ Noop) × ((argument ≡ []) ⊎ StartsWith (codes " ") argument)
 HasParts verb argument Leave = (verb ≡ Quit) × (argument ≡ [])
 
--- why `verb` with `argument` is not a command: the argument is not as the verb takes it
-abbrev pub IsPartsFault : Verb → List ℕ → Reply → Type 0
-IsPartsFault verb argument fault = (fault ≡ reply.BadArgument) × ¬ (IsArgument verb argument)
+-- the reply to an argument that is not as its verb takes it: there may be a parameter after a path
+abbrev pub IsArgumentFault : List ℕ → Reply → Type 0
+IsArgumentFault argument fault =
+    (ContainsText (codes "> ") argument × (fault ≡ reply.UnknownParameter))
+    ⊎ (¬ (ContainsText (codes "> ") argument) × (fault ≡ reply.BadArgument))
 
 -- `line` begins with the name of `verb`, in any case
 abbrev pub BeginsWithVerb : List ℕ → Verb → Type 0
@@ -91,7 +93,7 @@ abbrev pub IsFault : List ℕ → Reply → Type 0
 IsFault line fault = ((fault ≡ reply.UnknownCommand)
     × ((said : List ℕ) × IsSaid said line × ((verb : Verb) → ¬ (BeginsWithVerb said verb))))
     ⊎ ((said : List ℕ) × (verb : Verb) × (argument : List ℕ) × IsSaid said line
-    × IsCall said verb argument × IsPartsFault verb argument fault)
+    × IsCall said verb argument × ¬ (IsArgument verb argument) × IsArgumentFault argument fault)
 
 -- `Ok`: the command that `line` says. `Err`: the reply that says why it does not say one
 abbrev pub ReadsCommand : List ℕ → Result Command Reply → Type 0
@@ -114,6 +116,7 @@ reply_line reply.Unverified = codes "252 not verified"
 reply_line reply.TooManyRecipients = codes "452 too many recipients"
 reply_line reply.UnknownCommand = codes "500 unknown command"
 reply_line reply.BadArgument = codes "501 bad argument"
+reply_line reply.UnknownParameter = codes "555 unknown parameter"
 reply_line reply.BadSequence = codes "503 bad sequence"
 reply_line reply.LongLine = codes "500 line too long"
 reply_line reply.BadLine = codes "554 bad line"

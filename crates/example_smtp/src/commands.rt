@@ -1,11 +1,11 @@
 //! The commands of a client, and the lines that say them.
 
-ghost use Rattle.std.specs.Prelude.{◌↔◌, ◌≡◌, IsTrue, List, MatchOption, MatchResult, codes, ℕ};
+ghost use Rattle.std.specs.Prelude.{◌↔◌, ◌≡◌, IsTrue, List, MatchOption, codes, ℕ};
 ghost use Rattle.ascii.specs.Search.{StartsWith};
 ghost use Rattle.ascii.specs.View.{text_of};
-ghost use Rattle.example_smtp.specs.Commands.{BeginsWithVerb, HasParts, IsCall, IsPartsFault};
-ghost use Rattle.example_smtp.specs.Commands.{IsForeign, IsPath, IsWord, ReadsCommand, name_of};
-ghost use Rattle.example_smtp.specs.Commands.{reply_line};
+ghost use Rattle.example_smtp.specs.Commands.{BeginsWithVerb, HasParts, IsArgument};
+ghost use Rattle.example_smtp.specs.Commands.{IsArgumentFault, IsCall, IsForeign, IsPath, IsWord};
+ghost use Rattle.example_smtp.specs.Commands.{ReadsCommand, name_of, reply_line};
 
 use crate::paths::{between, is_recipient, is_sender};
 use ascii::classes::Blank;
@@ -97,6 +97,8 @@ pub enum Reply {
     UnknownCommand,
     /// The argument of the verb is not as it has to be.
     BadArgument,
+    /// There is a parameter after the path, and none is known.
+    UnknownParameter,
     /// The command is not allowed at this point.
     BadSequence,
     /// The line is longer than the buffer.
@@ -134,6 +136,7 @@ impl Reply {
             Reply::TooManyRecipients => AsciiStr::literal("452 too many recipients"),
             Reply::UnknownCommand => AsciiStr::literal("500 unknown command"),
             Reply::BadArgument => AsciiStr::literal("501 bad argument"),
+            Reply::UnknownParameter => AsciiStr::literal("555 unknown parameter"),
             Reply::BadSequence => AsciiStr::literal("503 bad sequence"),
             Reply::LongLine => AsciiStr::literal("500 line too long"),
             Reply::BadLine => AsciiStr::literal("554 bad line"),
@@ -163,7 +166,10 @@ pub fn read_command<'a>(line: AsciiStr<'a>) -> Result<Command<'a>, Reply>
     ensures { ReadsCommand (text_of line.entry) result }
 {
     match read_verb(line.trim_end_matches::<Blank>()) {
-        Some(call) => command_of(call.verb, call.argument),
+        Some(call) => match command_of(call.verb, call.argument) {
+            Some(command) => Ok(command),
+            None => Err(argument_fault(call.argument)),
+        },
         None => Err(Reply::UnknownCommand),
     }
 }
@@ -216,37 +222,48 @@ fn call_of<'a>(line: AsciiStr<'a>, verb: Verb) -> Option<Call<'a>>
     Some(Call { verb, argument })
 }
 
-/// Returns the command of a verb with this argument, or the reply that says that there is none.
-fn command_of<'a>(verb: Verb, argument: AsciiStr<'a>) -> Result<Command<'a>, Reply>
-    ensures { MatchResult result (HasParts verb (text_of argument.entry))
-        (IsPartsFault verb (text_of argument.entry)) }
+/// Returns the command of a verb with this argument, or `None` if the argument is not as the verb takes it.
+fn command_of<'a>(verb: Verb, argument: AsciiStr<'a>) -> Option<Command<'a>>
+    ensures { MatchOption result (¬ (IsArgument verb (text_of argument.entry)))
+        (HasParts verb (text_of argument.entry)) }
 {
     match verb {
         Verb::Helo => match word_of(argument) {
-            Some(domain) => Ok(Command::Introduce { domain }),
-            None => Err(Reply::BadArgument),
+            Some(domain) => Some(Command::Introduce { domain }),
+            None => None,
         },
         Verb::Ehlo => match word_of(argument) {
-            Some(domain) => Ok(Command::Extend { domain }),
-            None => Err(Reply::BadArgument),
+            Some(domain) => Some(Command::Extend { domain }),
+            None => None,
         },
         Verb::Mail => match address_of(argument) {
-            Some(address) if is_sender(address) => Ok(Command::SetSender { address }),
-            _ => Err(Reply::BadArgument),
+            Some(address) if is_sender(address) => Some(Command::SetSender { address }),
+            _ => None,
         },
         Verb::Rcpt => match address_of(argument) {
-            Some(address) if is_recipient(address) => Ok(Command::AddRecipient { address }),
-            _ => Err(Reply::BadArgument),
+            Some(address) if is_recipient(address) => Some(Command::AddRecipient { address }),
+            _ => None,
         },
-        Verb::Data if argument.is_empty() => Ok(Command::BeginLines),
-        Verb::Rset if argument.is_empty() => Ok(Command::Reset),
+        Verb::Data if argument.is_empty() => Some(Command::BeginLines),
+        Verb::Rset if argument.is_empty() => Some(Command::Reset),
         Verb::Vrfy => match word_of(argument) {
-            Some(mailbox) => Ok(Command::Verify { mailbox }),
-            None => Err(Reply::BadArgument),
+            Some(mailbox) => Some(Command::Verify { mailbox }),
+            None => None,
         },
-        Verb::Noop if argument.is_empty() || starts_with_space(argument) => Ok(Command::Reply),
-        Verb::Quit if argument.is_empty() => Ok(Command::Leave),
-        _ => Err(Reply::BadArgument),
+        Verb::Noop if argument.is_empty() || starts_with_space(argument) => Some(Command::Reply),
+        Verb::Quit if argument.is_empty() => Some(Command::Leave),
+        _ => None,
+    }
+}
+
+/// Returns the reply to an argument that is not as its verb takes it.
+fn argument_fault(argument: AsciiStr<'_>) -> Reply
+    ensures { IsArgumentFault (text_of argument.entry) result }
+{
+    if argument.contains(AsciiStr::literal("> ")) {
+        Reply::UnknownParameter
+    } else {
+        Reply::BadArgument
     }
 }
 
