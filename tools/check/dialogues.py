@@ -1,10 +1,14 @@
 """Dialogues of real clients with the example servers: a connection is the standard input and output of the program."""
+import fcntl
 import itertools
+import random
+import select
 import shutil
 import smtplib
 import socket
 import subprocess
 import tempfile
+import termios
 import threading
 import time
 import unittest
@@ -12,6 +16,7 @@ from contextlib import contextmanager
 from pathlib import Path
 from typing import NamedTuple
 
+import beside
 import traced
 
 TOP = Path(__file__).resolve().parents[2]
@@ -137,7 +142,7 @@ DIALOGUES = [
     store("2,000 requests in one packet", (b"PING\r\n" * 2000, b"+PONG\r\n" * 2000)),
     store("100,000 keys of one hash", *[(sets, b"+OK\r\n" * 1000) for sets in SETS], (request(b"GET", KEYS[-1]), b"$1\r\nv\r\n"), seconds=10),
     store("a value with breaks", (b"*3\r\n$3\r\nSET\r\n$1\r\nk\r\n$5\r\na\r\n\nb\r\nGET k\r\n", b"+OK\r\n$5\r\na\r\n\nb\r\n")),
-    store("a rejected length, and requests in its payload", (b"*2\r\n$3\r\nGET\r\n$9999\r\nSET a 1\r\nGET a\r\n", b"-ERR the length is not a number or too large\r\n")),
+    store("a rejected length, and requests in its payload", (b"*2\r\n$3\r\nGET\r\n$9999\r\nSET a 1\r\nGET a\r\n", b"-ERR Protocol error: invalid bulk length\r\n")),
     store("a byte above 127", (b"PING\r\n\xff\r\nPING\r\n", b"+PONG\r\n-ERR Protocol error: bad input\r\n")),
     store("an input that ends in a value", (b"*1\r\n$4\r\nPI", b""), then=b"-ERR Protocol error: bad input\r\n"),
 ]
@@ -190,6 +195,51 @@ class Talks(unittest.TestCase):
             self.assertEqual(rest, self.dialogue.then)
         if self.dialogue.seconds:
             self.assertLess(time.monotonic() - began, self.dialogue.seconds, "seconds")
+
+
+class TalksInPieces(Talks):
+    """The same dialogue in one go, in pieces of 1 to 12 bytes, each of which the program reads by itself. The replies are taken at
+    most so many bytes after each piece. What they say does not depend on either."""
+
+    LONGEST = 20_000  # bytes that a dialogue sends
+    TAKEN = (1, 3, 1 << 16)
+
+    def __str__(self):
+        return f"{super().__str__()}, in pieces"
+
+    def runTest(self):
+        sent, wanted = map(b"".join, zip(*self.dialogue.steps))
+        for most in self.TAKEN:
+            with self.subTest(most=most):
+                self.assertEqual(self.replies(sent, most), wanted + self.dialogue.then)
+
+    def replies(self, sent, most):
+        lengths, got, at = random.Random(most), b"", 0
+        client, server = socket.socketpair()
+        with start(self.dialogue.program, server), client:
+            server.close()
+            client.settimeout(WAIT)
+            try:
+                while at < len(sent):
+                    piece = sent[at : at + lengths.randint(1, 12)]
+                    client.sendall(piece)
+                    self.wait_until_read(client)
+                    at += len(piece)
+                    got += taken(client, most)
+                client.shutdown(socket.SHUT_WR)
+            except (BrokenPipeError, ConnectionResetError):
+                pass
+            return got + received(client, 1 << 20)
+
+    def wait_until_read(self, client):
+        ends = time.monotonic() + WAIT
+        while int.from_bytes(fcntl.ioctl(client, termios.TIOCOUTQ, bytes(4)), "little"):
+            self.assertLess(time.monotonic(), ends, "seconds")
+
+
+def taken(connection, most):
+    """The bytes that have come, of these as many at most."""
+    return connection.recv(most) if select.select([connection], [], [], 0)[0] else b""
 
 
 @contextmanager
@@ -373,7 +423,10 @@ class Runs(unittest.TestCase):
 
 
 def tests():
-    return [*map(Talks, DIALOGUES), SendsMail(), StoresMail(), RejectsFolder(), StoresInOrder(), *map(Runs, COMMANDS)]
+    short = [it for it in DIALOGUES if sum(len(sent) for sent, _ in it.steps) <= TalksInPieces.LONGEST]
+    with_folders = [SendsMail(), StoresMail(), RejectsFolder(), StoresInOrder()]
+    others = [beside.BesidePostfix(), beside.BesideRedis()]
+    return [*map(Talks, DIALOGUES), *map(TalksInPieces, short), *with_folders, *map(Runs, COMMANDS), *others]
 
 
 def faults(names=()):
