@@ -1,6 +1,8 @@
 -- The messages that a session delivers, step by step.
 use Rattle.std.proofs.Common.{◌≡◌, ◌≢◌, ◌∙◌, ℕ, None, Option, Some, List, [], ◌∷◌, ◌++◌, Err, Ok, Result}
 use Rattle.std.proofs.Common.{ap, append-nil, inl, inr, refl, subst, sym}
+use Rattle.std.proofs.Common.{◌-◌, Bool, false, true}
+use Rattle.std.proofs.lemmas.Bool.{false≢true}
 use Rattle.std.proofs.lemmas.List.{map-append}
 use Rattle.std.proofs.lemmas.Grind.{flat_map-append}
 use Rattle.std.specs.Prelude.{MatchResult, codes}
@@ -24,6 +26,7 @@ use Rattle.example_smtp.specs.Deliveries.{AreExchanges, Brings, Delivers, Exchan
 use Rattle.example_smtp.specs.Deliveries.{begun_after, ends, part_of}
 use Rattle.example_smtp.specs.Folder.{StoresIn}
 use Rattle.example_smtp.specs.Mail.{State, file_of, text_of_lines, unstuffed}
+use Rattle.example_smtp.specs.Session.{Counts, CountsBy, is_error}
 use Rattle.example_smtp.specs.Session.{AnswersAt, AnswersCommand, AnswersInput, AnswersLine, Ends}
 use Rattle.example_smtp.specs.Session.{Follows, RefusesAt, TakesLine, after, next_after}
 use Rattle.example_smtp.specs.Session.{first_fault, refusal_of, reply_of_fault, reply_to}
@@ -34,6 +37,7 @@ use Rattle.example_smtp.specs.declared.commands.Command.TheVariants.{Introduce, 
 use Rattle.example_smtp.specs.declared.commands.Command.TheVariants.{SetSender, Verify}
 use Rattle.example_smtp.specs.declared.commands.Command.TheVariants as command
 use Rattle.example_smtp.specs.declared.commands.Reply.{Reply}
+use Rattle.example_smtp.specs.declared.commands.Reply.TheVariants as reply
 use Rattle.example_smtp.specs.declared.session.Fault.{Fault}
 use Rattle.example_smtp.specs.declared.session.Fault.TheVariants.{NoMemory, OtherBytes, Rejected, TooLarge}
 use Rattle.example_smtp.specs.declared.session.Stage.{Stage}
@@ -332,6 +336,68 @@ module _ (old new : State) (said : Option Reply) where
   moves_rejected error (Some sent) inside refuses = refused old new sent said inside error
       (subst (λ s. RefusesAt s old error said new) inside.0 refuses)
 
+-- ---- errors
+
+-- no message begins or is delivered by the reply to an error
+error_part : (said : Reply) → is_error said ≡ true → part_of (Some said) ≡ ends
+error_part reply.SendLines is = absurd (false≢true is)
+error_part reply.Received is = absurd (false≢true is)
+error_part reply.Bye is = refl
+error_part reply.Done is = refl
+error_part reply.Extensions is = refl
+error_part reply.Unverified is = refl
+error_part reply.TooManyRecipients is = refl
+error_part reply.UnknownCommand is = refl
+error_part reply.BadArgument is = refl
+error_part reply.UnknownParameter is = refl
+error_part reply.BadSequence is = refl
+error_part reply.LongLine is = refl
+error_part reply.BadLine is = refl
+error_part reply.CutOff is = refl
+error_part reply.NoMemory is = refl
+error_part reply.BadMessage is = refl
+error_part reply.OtherBytes is = refl
+error_part reply.LargeMessage is = refl
+error_part reply.NotStored is = refl
+error_part reply.Closing is = refl
+
+-- the same session, with another count of errors
+inside_left : (begun : Option Sent) (state : State) (left : ℕ) → Inside begun state
+    → Inside begun (record state { left = left })
+inside_left None state left apart = apart
+inside_left (Some sent) state left inside = inside
+
+module _ (old mid new : State) (begun : Option Sent) (line : Option (List ℕ)) where
+  -- another reply of the same part, and another count
+  relabel : (said given : Option Reply) (left : ℕ) → part_of given ≡ part_of said
+      → new ≡ record mid { left = left } → Moves old begun line said mid
+      → Moves old begun line given new
+  relabel said given left part same moved = subst (Moves old begun line given) (sym same) (record {
+    mails = moved.mails;
+    brings = subst (λ p. Brings p begun line moved.mails) (sym part) moved.brings;
+    stored = moved.stored;
+    inside = subst (λ p. Inside (begun_after p begun line) (record mid { left = left }))
+        (sym part) (inside_left (begun_after (part_of said) begun line) mid left moved.inside);
+  })
+
+  -- errors are counted
+  counted : (said given : Option Reply) → Counts mid said given new
+      → Moves old begun line said mid → Moves old begun line given new
+  counted None given (is, same) moved =
+      relabel None given mid.left (ap part_of is) same moved
+  counted (Some said) given counts moved = by (is_error said) refl counts
+    where
+      by : (b : Bool) → is_error said ≡ b → CountsBy b mid said given new
+          → Moves old begun line given new
+      by false is (shown, same) = relabel (Some said) given mid.left (ap part_of shown) same moved
+      by true is counts = elim counts [
+        | inl last ↦
+            relabel (Some said) given mid.left
+            (ap part_of last.1 ∙ sym (error_part said is)) last.2 moved
+        | inr more ↦
+            relabel (Some said) given (mid.left - 1) (ap part_of more.1) more.2 moved
+      ]
+
 -- ---- the steps of a conversation
 
 module _ (first : ChannelState) (events : List Event) (endings : Endings) (size : ℕ)
@@ -377,7 +443,7 @@ module _ (first : ChannelState) (events : List Event) (endings : Endings) (size 
       (λ begun inside. tells mid b (past ++ step ∷ []) steps begun inside turns
       (AtEachSending-after (AreSentFirst first events) past (step ∷ []) steps ordered)) turn
     where
-      -- a step that is no exchange
+      -- a step that is not an exchange
       skips : (step : Step) → mid.handler ≡ a.handler
           → ((begun : Option Sent) → Inside begun mid.handler
           → Tells (past ++ step ∷ []) begun mid.handler steps b.handler)
@@ -413,8 +479,9 @@ module _ (first : ChannelState) (events : List Event) (endings : Endings) (size 
           → IsTurnAt session_answers session_refuses endings size now awaited a step mid
           → Tells past begun a.handler (step ∷ steps) b.handler
       go (Input asked) (took input replies) then rest t =
-          let (said, is, asks, answers) = t.8 in
-          let moved = moves a.handler mid.handler said input begun inside answers in
+          let (first_said, said, halfway, answers, counts, is, asks) = t.8 in
+          let moved = counted a.handler halfway mid.handler begun (Some input.body) first_said said
+          counts (moves a.handler halfway first_said input begun inside answers) in
           let others = rest (begun_after (part_of said) begun (Some input.body)) moved.inside in
           let more = cons_exchange past begun a.handler mid.handler b.handler (Some input.body)
           said others.exchanges others.mails moved others.delivers others.stored in
@@ -435,8 +502,9 @@ module _ (first : ChannelState) (events : List Event) (endings : Endings) (size 
             stored = more.1;
           }
       go (Input asked) (serve.rejected error replies) then rest t =
-          let (said, is, asks, refuses) = t.5 in
-          let moved = moves_rejected a.handler mid.handler said error begun inside refuses in
+          let (first_said, said, halfway, refuses, counts, is, asks) = t.5 in
+          let moved = counted a.handler halfway mid.handler begun None first_said said counts
+          (moves_rejected a.handler halfway first_said error begun inside refuses) in
           let others = rest (begun_after (part_of said) begun None) moved.inside in
           let more = cons_exchange past begun a.handler mid.handler b.handler None said
           others.exchanges others.mails moved others.delivers others.stored in

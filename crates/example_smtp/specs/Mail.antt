@@ -39,11 +39,13 @@ abbrev pub file_of : Mail → List ℕ
 file_of mail = envelope_of mail ++ mail.text
 
 -- the state of a session: what it awaits, the message that was begun, the first fault in its lines,
--- if there is one, and what is in its folder, if it has one
+-- if there is one, at how many errors more the client is left, and what is in its folder, if it has
+-- one
 pub record State : Type 0 where
   pub stage : Stage
   pub draft : Mail
   pub fault : Option Fault
+  pub left : ℕ
   pub folder : Option Contents
 
 -- the texts of strings
@@ -63,5 +65,6 @@ abbrev pub no_mail : Mail
 no_mail = record { sender = []; recipients = []; text = [] }
 
 -- no message was begun
-abbrev pub idle : Stage → Option Contents → State
-idle stage folder = record { stage = stage; draft = no_mail; fault = None; folder = folder }
+abbrev pub idle : Stage → ℕ → Option Contents → State
+idle stage left folder =
+    record { stage = stage; draft = no_mail; fault = None; left = left; folder = folder }

@@ -1,6 +1,6 @@
 -- What a session replies to a line.
-use Rattle.std.specs.Prelude.{◌≡◌, ◌≢◌, ◌⊎◌, ◌<◌, ◌≤◌, ℕ, List, [], ◌∷◌, ◌++◌, MatchResult, None, Some, ⊤}
-use Rattle.std.specs.Prelude.{codes, length}
+use Rattle.std.specs.Prelude.{◌≡◌, ◌≢◌, ◌⊎◌, ◌<◌, ◌≤◌, ◌-◌, ℕ, Bool, List, [], ◌∷◌, ◌++◌, MatchResult, None, Some, ⊤}
+use Rattle.std.specs.Prelude.{codes, false, length, true}
 use Rattle.std.specs.declared.option.Option.{Option}
 use Rattle.std.specs.declared.result.Result.{Result}
 use Rattle.ascii.specs.Lines.{Line}
@@ -139,8 +139,8 @@ EndsWhole old said new =
 
 -- the message that was begun is ended with this reply, by its fault, and another may begin
 abbrev pub Ends : Option Fault → State → Reply → State → Type 0
-Ends None old said new = EndsWhole old said new × (new ≡ idle Ready new.folder)
-Ends (Some fault) old said new = (said ≡ reply_of_fault fault) × (new ≡ idle Ready old.folder)
+Ends None old said new = EndsWhole old said new × (new ≡ idle Ready old.left new.folder)
+Ends (Some fault) old said new = (said ≡ reply_of_fault fault) × (new ≡ idle Ready old.left old.folder)
 
 -- the reply to a line of a message: a dot alone ends it; to another line there is none
 abbrev pub AnswersLine : State → List ℕ → Option Reply → State → Type 0
@@ -186,6 +186,29 @@ RefusesAt Lines old error said new =
     (said ≡ None) × (new ≡ record old { fault = Some (first_fault old.fault error) })
 RefusesAt other old error said new = (said ≡ Some (refusal_of error)) × (new ≡ old)
 
+-- the reply is to an error of the client
+abbrev pub is_error : Reply → Bool
+is_error reply.UnknownCommand = true
+is_error reply.BadArgument = true
+is_error reply.UnknownParameter = true
+is_error reply.BadSequence = true
+is_error reply.LongLine = true
+is_error reply.BadLine = true
+is_error other = false
+
+-- what is replied in place of a reply, by whether that is to an error: at the last one the client is
+-- left with 421
+abbrev pub CountsBy : Bool → State → Reply → Option Reply → State → Type 0
+CountsBy false old said given new = (given ≡ Some said) × (new ≡ old)
+CountsBy true old said given new =
+    ((old.left ≤ 1) × (given ≡ Some reply.Closing) × (new ≡ old))
+    ⊎ ((1 < old.left) × (given ≡ Some said) × (new ≡ record old { left = old.left - 1 }))
+
+-- what is replied, if anything is, after errors are counted
+abbrev pub Counts : State → Option Reply → Option Reply → State → Type 0
+Counts old None given new = (given ≡ None) × (new ≡ old)
+Counts old (Some said) given new = CountsBy (is_error said) old said given new
+
 -- what is asked for after a reply
 abbrev pub next_after : Option Reply → Next
 next_after (Some reply.Bye) = next.Close
@@ -201,11 +224,12 @@ reply_lines (Some said) = line_reply (reply_line said) ∷ []
 
 -- what a session answers, as the relation of a handler
 abbrev pub session_answers : State → Line → List serve.Reply → Next → State → Type 0
-session_answers old input replies asked new = (said : Option Reply)
-    × (replies ≡ reply_lines said) × (asked ≡ next_after said) × AnswersInput old input said new
+session_answers old input replies asked new = (said : Option Reply) × (given : Option Reply)
+    × (mid : State) × AnswersInput old input said mid × Counts mid said given new
+    × (replies ≡ reply_lines given) × (asked ≡ next_after given)
 
 -- what it answers to an error in place of a line
 abbrev pub session_refuses : State → LineError → List serve.Reply → Next → State → Type 0
-session_refuses old error replies asked new = (said : Option Reply)
-    × (replies ≡ reply_lines said) × (asked ≡ next_after said)
-    × RefusesAt old.stage old error said new
+session_refuses old error replies asked new = (said : Option Reply) × (given : Option Reply)
+    × (mid : State) × RefusesAt old.stage old error said mid × Counts mid said given new
+    × (replies ≡ reply_lines given) × (asked ≡ next_after given)

@@ -19,7 +19,7 @@ pub fn receive<C: Channel, A: Allocator, F: Folder>(
     session: &mut Session<F>,
 ) -> Stop
     requires lines { IsUp lines.old.state }
-    requires session { session.old ≡ idle Stage.Greeting session.old.folder }
+    requires session { session.old ≡ idle Stage.Greeting 20 session.old.folder }
     ensures { Receives lines.old.state session.old result lines.new.state session.new }
 {
     serve(lines, session)

@@ -5,8 +5,9 @@ ghost use Rattle.ascii.specs.View.{text_of};
 ghost use Rattle.ascii_lines.specs.LineWriter.{line_with};
 ghost use Rattle.ascii_lines.specs.Replies.{IsRequest, Says};
 ghost use Rattle.example_smtp.specs.Folder.{StoresIn};
-ghost use Rattle.example_smtp.specs.Session.{Fits, IsAllowed, fault_of, next_after, refusal_of};
-ghost use Rattle.example_smtp.specs.Session.{reply_lines, reply_of_fault, reply_to, reset_stage};
+ghost use Rattle.example_smtp.specs.Session.{Fits, IsAllowed, fault_of, is_error, next_after};
+ghost use Rattle.example_smtp.specs.Session.{refusal_of, reply_lines, reply_of_fault, reply_to};
+ghost use Rattle.example_smtp.specs.Session.{reset_stage};
 
 use crate::commands::{Command, Reply, is_foreign, read_command};
 use crate::folder::Folder;
@@ -22,6 +23,9 @@ const MOST_RECIPIENTS: usize = 1_000;
 
 /// The most bytes of the text of a message.
 const MOST_BYTES: usize = 16_777_216;
+
+/// The error of a client at which it is left.
+const LAST_ERROR: usize = 20;
 
 /// What a session awaits.
 #[derive(Clone, Copy, PartialEq, Eq, Debug)]
@@ -59,6 +63,8 @@ pub struct Session<F: Folder> {
     draft: Message,
     // The first fault in the lines of the draft.
     fault: Option<Fault>,
+    // At how many errors more the client is left.
+    left: usize,
     count: usize,
     mailbox: Option<Mailbox<F>>,
 }
@@ -72,25 +78,27 @@ impl<F: Folder> Model for Session<F> {
       stage = session.stage;
       draft = mail_of session.draft;
       fault = session.fault;
+      left = session.left;
       folder = session.mailbox;
     } };
 }
 
 impl<F: Folder> Session<F> {
     ghost use Rattle.example_smtp.specs.Mail.{idle};
-    ghost use Rattle.example_smtp.specs.Session.{AnswersCommand, AnswersInput, AnswersLine, Ends};
-    ghost use Rattle.example_smtp.specs.Session.{Follows, IsStranger, KeepsLine, RefusesAt, after};
-    ghost use Rattle.example_smtp.specs.Session.{spoiled};
+    ghost use Rattle.example_smtp.specs.Session.{AnswersCommand, AnswersInput, AnswersLine, Counts};
+    ghost use Rattle.example_smtp.specs.Session.{Ends, Follows, IsStranger, KeepsLine, RefusesAt};
+    ghost use Rattle.example_smtp.specs.Session.{after, spoiled};
 
     /// Creates a session that stores messages in the mailbox, if there is one. Does not allocate.
     pub fn new(alloc: Global, mailbox: Option<Mailbox<F>>) -> Session<F>
-        ensures { result ≡ idle Stage.Greeting mailbox }
+        ensures { result ≡ idle Stage.Greeting 20 mailbox }
     {
         Session {
             alloc,
             stage: Stage::Greeting,
             draft: Message::new(alloc),
             fault: None,
+            left: LAST_ERROR,
             count: 0,
             mailbox,
         }
@@ -256,6 +264,22 @@ impl<F: Folder> Session<F> {
         }
         Some(refusal(error))
     }
+
+    /// Returns what is replied in place of a reply: at the last error of a client it is left.
+    fn count_error(&mut self, said: Option<Reply>) -> Option<Reply>
+        ensures { Counts self.old said result self.new }
+    {
+        match said {
+            Some(reply) if is_error(reply) => {
+                if self.left <= 1 {
+                    return Some(Reply::Closing);
+                }
+                self.left -= 1;
+                said
+            }
+            _ => said,
+        }
+    }
 }
 
 impl<F: Folder> Handler for Session<F> {
@@ -272,6 +296,7 @@ impl<F: Folder> Handler for Session<F> {
         replies: &mut Replies<K, A>,
     ) -> Next {
         let reply = self.take(text, ending);
+        let reply = self.count_error(reply);
         say(reply, replies)
     }
 
@@ -281,6 +306,7 @@ impl<F: Folder> Handler for Session<F> {
         replies: &mut Replies<K, A>,
     ) -> Next {
         let reply = self.reject(error);
+        let reply = self.count_error(reply);
         say(reply, replies)
     }
 }
@@ -334,6 +360,17 @@ fn reply_of_fault(fault: Fault) -> Reply
         Fault::OtherBytes => Reply::OtherBytes,
         Fault::TooLarge => Reply::LargeMessage,
         Fault::NoMemory => Reply::NoMemory,
+    }
+}
+
+/// Returns `true` if the reply is to an error of the client.
+fn is_error(reply: Reply) -> bool
+    ensures { result ≡ is_error reply }
+{
+    match reply {
+        Reply::UnknownCommand | Reply::BadArgument | Reply::UnknownParameter => true,
+        Reply::BadSequence | Reply::LongLine | Reply::BadLine => true,
+        _ => false,
     }
 }
 
