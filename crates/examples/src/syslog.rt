@@ -83,8 +83,8 @@ pub type Name = ByRanges<NameRanges>;
 pub fn read_message<'a>(alloc: Global, line: AsciiStr<'a>) -> Result<Message<'a>, ParseError<'a>>
     ensures { MatchResult result (IsMessage (text_of line.entry)) (IsErrorIn line.entry) }
 {
-    let (priority, rest) = take_number(Part::of(line), AsciiChar::LessThan, 191)?;
-    let (version, rest) = take_number(rest, AsciiChar::GreaterThan, 999)?;
+    let (priority, rest) = take_digits(Part::of(line), AsciiChar::LessThan, 191)?;
+    let (version, rest) = take_digits(rest, AsciiChar::GreaterThan, 999)?;
     let (time, rest) = take_field::<Graphic>(rest, AsciiChar::Space, 32)?;
     let Ok(instant) = read_instant(time.text()) else {
         return Err(ParseError::At(time, Expected::Named("a time")));
@@ -121,7 +121,7 @@ fn take_field<'a, C: Searched>(rest: Part<'a>, mark: AsciiChar, most: usize) -> 
 }
 
 /// Takes a character, and after it up to three digits that write a number up to `most`.
-fn take_number<'a>(rest: Part<'a>, mark: AsciiChar, most: u16) -> Taken<'a, Number<'a>>
+fn take_digits<'a>(rest: Part<'a>, mark: AsciiChar, most: u16) -> Taken<'a, Number<'a>>
     ensures { Takes (IsNumber most) (λ number. code_of mark ∷ part_text number.digits)
         rest.entry result }
 {
