@@ -1,7 +1,6 @@
 //! The commands of a client, and the lines that say them.
 
-ghost use Rattle.std.specs.Prelude.{◌↔◌, ◌≡◌, IsTrue, List, MatchOption, codes, ℕ};
-ghost use Rattle.ascii.specs.Search.{StartsWith};
+ghost use Rattle.std.specs.Prelude.{◌↔◌, ◌≡◌, IsTrue, List, MatchOption, ℕ};
 ghost use Rattle.ascii.specs.View.{text_of};
 ghost use Rattle.example_smtp.specs.Commands.{BeginsWithVerb, HasParts, IsArgument};
 ghost use Rattle.example_smtp.specs.Commands.{IsArgumentFault, IsCall, IsForeign, IsPath, IsWord};
@@ -228,14 +227,14 @@ fn command_of<'a>(verb: Verb, argument: AsciiStr<'a>) -> Option<Command<'a>>
         (HasParts verb (text_of argument.entry)) }
 {
     match verb {
-        Verb::Helo => match word_of(argument) {
-            Some(domain) => Some(Command::Introduce { domain }),
-            None => None,
-        },
-        Verb::Ehlo => match word_of(argument) {
-            Some(domain) => Some(Command::Extend { domain }),
-            None => None,
-        },
+        Verb::Helo => {
+            let domain = word_of(argument)?;
+            Some(Command::Introduce { domain })
+        }
+        Verb::Ehlo => {
+            let domain = word_of(argument)?;
+            Some(Command::Extend { domain })
+        }
         Verb::Mail => match address_of(argument) {
             Some(address) if is_sender(address) => Some(Command::SetSender { address }),
             _ => None,
@@ -246,11 +245,12 @@ fn command_of<'a>(verb: Verb, argument: AsciiStr<'a>) -> Option<Command<'a>>
         },
         Verb::Data if argument.is_empty() => Some(Command::BeginLines),
         Verb::Rset if argument.is_empty() => Some(Command::Reset),
-        Verb::Vrfy => match word_of(argument) {
-            Some(mailbox) => Some(Command::Verify { mailbox }),
-            None => None,
-        },
-        Verb::Noop if argument.is_empty() || starts_with_space(argument) => Some(Command::Reply),
+        Verb::Vrfy => {
+            let mailbox = word_of(argument)?;
+            Some(Command::Verify { mailbox })
+        }
+        Verb::Noop if argument.is_empty() => Some(Command::Reply),
+        Verb::Noop if argument.starts_with(AsciiStr::literal(" ")) => Some(Command::Reply),
         Verb::Quit if argument.is_empty() => Some(Command::Leave),
         _ => None,
     }
@@ -284,13 +284,6 @@ pub fn is_foreign(line: AsciiStr<'_>) -> bool
         return true;
     }
     line.starts_with(AsciiStr::literal("CONNECT "))
-}
-
-/// Returns `true` if the text starts with a space.
-fn starts_with_space(text: AsciiStr<'_>) -> bool
-    ensures { IsTrue result ↔ StartsWith (codes " ") (text_of text.entry) }
-{
-    text.starts_with(AsciiStr::literal(" "))
 }
 
 /// Returns the text after the space with which the argument starts, or `None` if it does not, or there is no text.
