@@ -53,15 +53,6 @@ stores_none folder = record {
   left = λ tidy same. tidy;
 }
 
--- a call failed, and nothing is stored
-pub stores_failed : (old new : Contents) → new.mails ≡ old.mails → old.failures < new.failures
-    → Stores old [] new
-stores_failed old new mails fails = record {
-  mails = mails ∙ sym (append-nil old.mails);
-  failures = omega (arith, fails);
-  left = λ tidy same. absurd (omega (arith, fails, same));
-}
-
 -- mails are stored, and then others
 pub stores_then : (old mid new : Contents) (first then : List (List ℕ)) → Stores old first mid
     → Stores mid then new → Stores old (first ++ then) new

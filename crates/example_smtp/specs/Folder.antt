@@ -43,8 +43,8 @@ Writes more old result new = MatchResult result
 abbrev pub IsTidy : Contents → Type 0
 IsTidy folder = (folder.drafts ≡ []) × (folder.links ≡ [])
 
--- mails of these bytes were stored, in order, and those that were there still are. If no call has failed, nothing else
--- was left
+-- mails of these bytes were stored, in order, and those that were there still are. If no call has
+-- failed, nothing else was left
 pub record Stores (old : Contents) (added : List (List ℕ)) (new : Contents) : Type 0 where
   pub mails : new.mails ≡ old.mails ++ added
   pub failures : old.failures ≤ new.failures

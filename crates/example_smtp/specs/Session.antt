@@ -140,7 +140,8 @@ EndsWhole old said new =
 -- the message that was begun is ended with this reply, by its fault, and another may begin
 abbrev pub Ends : Option Fault → State → Reply → State → Type 0
 Ends None old said new = EndsWhole old said new × (new ≡ idle Ready old.left new.folder)
-Ends (Some fault) old said new = (said ≡ reply_of_fault fault) × (new ≡ idle Ready old.left old.folder)
+Ends (Some fault) old said new =
+    (said ≡ reply_of_fault fault) × (new ≡ idle Ready old.left old.folder)
 
 -- the reply to a line of a message: a dot alone ends it; to another line there is none
 abbrev pub AnswersLine : State → List ℕ → Option Reply → State → Type 0

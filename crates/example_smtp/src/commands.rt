@@ -159,8 +159,8 @@ pub struct Call<'a> {
     pub argument: AsciiStr<'a>,
 }
 
-/// Returns the command that the line says, or the reply that says why it does not say one. Spaces and tabs at the end of the
-/// line belong to neither.
+/// Returns the command that the line says, or the reply that says why it does not say one. Spaces and tabs at the end
+/// of the line belong to neither.
 pub fn read_command<'a>(line: AsciiStr<'a>) -> Result<Command<'a>, Reply>
     ensures { ReadsCommand (text_of line.entry) result }
 {

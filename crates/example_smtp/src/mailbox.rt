@@ -35,11 +35,12 @@ impl<F: Folder> Mailbox<F> {
         Mailbox { folder, count: 0 }
     }
 
-    /// Stores a mail, the envelope before the text, under a name that no other mail has; or returns an error if a call failed, and then the folder
-    /// has no other mail than before.
+    /// Stores a mail, the envelope before the text, under a name that no other mail has; or returns an error if a
+    /// call failed, and then the folder has no other mail than before.
     #[tactic(auto, using(crate::proofs::FolderLemmas::stores_none, crate::proofs::FolderLemmas::stores_then))]
     pub fn store(&mut self, envelope: AsciiStr<'_>, text: AsciiStr<'_>) -> io::Result<()>
-        ensures ok { OnOk result (Stores self.old ((text_of envelope.entry ++ text_of text.entry) ∷ []) self.new) }
+        ensures ok { OnOk result (Stores self.old
+            ((text_of envelope.entry ++ text_of text.entry) ∷ []) self.new) }
         ensures err { OnErr result (Stores self.old [] self.new) }
     {
         for _ in 0..MOST_NAMES {
@@ -54,7 +55,8 @@ impl<F: Folder> Mailbox<F> {
 
     /// Stores a mail under the next name, and removes what earlier calls left.
     fn store_once(&mut self, envelope: AsciiStr<'_>, text: AsciiStr<'_>) -> io::Result<()>
-        ensures ok { OnOk result (Stores self.old ((text_of envelope.entry ++ text_of text.entry) ∷ []) self.new) }
+        ensures ok { OnOk result (Stores self.old
+            ((text_of envelope.entry ++ text_of text.entry) ∷ []) self.new) }
         ensures err { OnErr result (Stores self.old [] self.new) }
     {
         self.count = self.count.wrapping_add(1);

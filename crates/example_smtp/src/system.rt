@@ -1,8 +1,8 @@
 //! A folder of the system.
 //!
 //! No contract of std says what a call does to a file. So the methods of `Folder` below say it of what those of `Files`
-//! do, and are to be read beside these: each makes one call, and notes its outcome. `bin/test dialogues` compares the system calls
-//! of a delivery.
+//! do, and are to be read beside these: each makes one call, and notes its outcome. `bin/test dialogues` compares the
+//! system calls of a delivery.
 
 ghost use Rattle.std.specs.Prelude.{◌≡◌, ◌++◌, map};
 ghost use Rattle.ascii.specs.View.{text_of};
