@@ -220,7 +220,8 @@ SMTP = [
     Row("a command of 3,000 bytes", command(b"NOOP " + b"x" * 2995), "220 250 250 221"),
     Row("a command of 5,000 bytes", command(b"NOOP " + b"x" * 4995),
         "220 250 500 221", "220 250 250 221", "a line has at most 4,096 bytes"),
-    Row("25 errors", HELO + b"FOO\r\n" * 25 + QUIT, "220 250 25 x 500 221", "220 250 20 x 500 421", "TODO"),
+    Row("25 errors", HELO + b"FOO\r\n" * 25 + QUIT,
+        "220 250 19 x 500 421", "220 250 20 x 500 421", "the 20th error itself is answered by 421"),
     Row("what comes after QUIT", HELO + QUIT + b"NOOP\r\n", "220 250 221"),
 ]
 
