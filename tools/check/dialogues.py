@@ -328,6 +328,18 @@ class RejectsFolder(unittest.TestCase):
         self.assertRegex(got.stderr, b"^/dev/null: .+\n$")
 
 
+class CountsMail(unittest.TestCase):
+    """Standard error has the number of messages that got their 250, which no clause states."""
+
+    def __str__(self):
+        return "example_smtp: the number of messages"
+
+    def runTest(self):
+        sent = BEGUN[0] + b"one\r\n.\r\n" + StoresMail.BAD_MAIL + MAIL
+        program = TOP / "crates/example_smtp/out/example_smtp"
+        self.assertEqual(subprocess.run([program], input=sent, capture_output=True).stderr, b"Closed, 2 messages\n")
+
+
 class StoresInOrder(unittest.TestCase):
     """The system calls of a delivery, in their order: the reply is written when all of them have returned, and before the file
     of another mail in the same packet is created."""
@@ -425,7 +437,7 @@ class Runs(unittest.TestCase):
 
 def tests():
     short = [it for it in DIALOGUES if sum(len(sent) for sent, _ in it.steps) <= TalksInPieces.LONGEST]
-    with_folders = [SendsMail(), StoresMail(), RejectsFolder(), StoresInOrder()]
+    with_folders = [SendsMail(), CountsMail(), StoresMail(), RejectsFolder(), StoresInOrder()]
     others = [beside.BesidePostfix(), beside.BesideRedis()]
     return [*map(Talks, DIALOGUES), *map(TalksInPieces, short), *with_folders, *map(Runs, COMMANDS), *others]
 
