@@ -78,6 +78,7 @@ fn put_step(map: &mut Map, step: Step, key: Vec<u8>, fails: bool, want: &mut Ans
         0 => want.put(map.insert(key, step.at)),
         1 => want.put(map.get(&key).copied()),
         2 => want.put(map.remove(&key)),
+        4 => want.all(&*map),
         _ => want.put(map.contains_key(&key)),
     }
     want.put((map.len(), map.is_empty()));

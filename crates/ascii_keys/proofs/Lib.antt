@@ -1,2 +1,3 @@
+pub mod AsciiMapLemmas
 pub mod FoldedMapLemmas
 pub mod OrderLemmas

@@ -1,21 +1,20 @@
--- What contracts see of a map from texts to values: a function from texts. `update` is std's word
--- for a function that is changed at one text, `lookup` for the first entry whose key passes a test.
+-- What contracts see of a map: a list of texts with their values, and a function from texts. `update`
+-- is std's word for a function that is changed at one text, `lookup` for the first entry whose key passes a test.
 use Rattle.std.specs.Borrow.{Bor}
-use Rattle.std.specs.BTreeMap.{btree_map_len, get_by_text}
 use Rattle.std.specs.Cmp.Lexicographic.{slice_cmp}
 use Rattle.std.specs.List.{All, HoldsAt, insert}
-use Rattle.std.specs.List.Sorted.{IsPartitionPoint}
+use Rattle.std.specs.List.Sorted.{IsPartitionPoint, IsStrictlySortedBy}
 use Rattle.std.specs.Map.{keys_of, lookup, update}
 use Rattle.std.specs.Ordering.{nat_cmp, on}
 use Rattle.std.specs.Prelude.{◌≡◌, ℕ, ◌+◌, ◌<◌, ◌≤◌, Bool, List, MatchOption, Option, Some}
-use Rattle.std.specs.Prelude.{cond, is_some, length, map, slice_index_or}
-use Rattle.std.specs.Str.{bytes_eq}
+use Rattle.std.specs.Prelude.{cond, is_some, length, map, slice_index_or, string_bytes}
+use Rattle.std.specs.Str.{IsAscii, bytes_eq}
 use Rattle.std.specs.declared.cmp.Ordering.{Ordering}
 use Rattle.std.specs.declared.cmp.Ordering.TheVariants.{Equal, Greater, Less}
+use Rattle.std.specs.declared.string.String.{String}
 use Rattle.ascii.specs.Case.{lower_image}
 use Rattle.ascii.specs.View.{text_of}
 use Rattle.ascii.specs.declared.ascii_str.AsciiStr.{AsciiStr}
-use Rattle.ascii_keys.specs.declared.maps.AsciiMap.{AsciiMap}
 
 -- a value at each text, or `None` if there is none
 abbrev pub Values : Type 0 → Type 0
@@ -26,28 +25,24 @@ abbrev pub Changes : {V : Type 0} → (List ℕ → List ℕ → Bool) → Value
     → Values V → Type 0
 Changes same old key value new = (other : List ℕ) → new other ≡ update same old key value other
 
--- the value that `map` has at `key`, or `None` if it has none
-abbrev pub value_at : {V : Type 0} → AsciiMap V → List ℕ → Option V
-value_at map key = get_by_text map.entries key
-
--- the number of texts that have a value in `map`
-abbrev pub size_of : {V : Type 0} → AsciiMap V → ℕ
-size_of map = btree_map_len map.entries
-
--- `new` has what `old` has, except that it has `value` at `key`
-abbrev pub ChangesAt : {V : Type 0} → List ℕ → Option V → AsciiMap V → AsciiMap V → Type 0
-ChangesAt key value old new = Changes bytes_eq (value_at old) key value (value_at new)
-
--- `new` has what `old` has
-abbrev pub HasSame : {V : Type 0} → AsciiMap V → AsciiMap V → Type 0
-HasSame old new =
-    (size_of new ≡ size_of old) × ((key : List ℕ) → value_at new key ≡ value_at old key)
-
--- ---- a map that ignores ASCII case: a list of texts with their values
-
 -- texts with their values
 abbrev pub Entries : Type 0 → Type 0
 Entries V = List (List ℕ × V)
+
+-- the value in `entries` at `key`, or `None` if there is none
+abbrev pub value_at : {V : Type 0} → Entries V → Values V
+value_at entries key = lookup (bytes_eq key) entries
+
+-- `new` has what `old` has, except that it has `value` at `key`
+abbrev pub ChangesAt : {V : Type 0} → List ℕ → Option V → Entries V → Entries V → Type 0
+ChangesAt key value old new = Changes bytes_eq (value_at old) key value (value_at new)
+
+-- `iterator` has yet to yield the entries of `map`, whose keys ascend by their bytes
+pub record Walks {V : Type 0} (map iterator : Entries V) : Type 0 where
+  pub entries : iterator ≡ map
+  pub ordered : IsStrictlySortedBy (slice_cmp nat_cmp) (keys_of map)
+
+-- ---- a map that ignores ASCII case: a list of texts with their values
 
 -- the entry that a walk yields as a view of its key and a reference to its value
 abbrev pub entry_of : {V : Type 0} → AsciiStr × Bor V → List ℕ × V
@@ -91,6 +86,14 @@ pub record WalksInOrder {V : Type 0} (map iterator : Entries V) : Type 0 where
   pub values : All (λ entry. folded_value_at map entry.0 ≡ Some entry.1) map
 
 -- ---- only private calls cite the following
+
+-- strings with their values, as texts
+abbrev pub texts_of : {A V : Type 0} → List (String A × V) → Entries V
+texts_of entries = map (λ entry. (string_bytes entry.0, entry.1)) entries
+
+-- the strings are ASCII
+abbrev pub HasAsciiKeys : {A V : Type 0} → List (String A × V) → Type 0
+HasAsciiKeys entries = All (λ key. IsAscii (string_bytes key)) (keys_of entries)
 
 -- the entry at `place` is that of `key`
 pub record IsPlaceOf {V : Type 0} (entries : Entries V) (key : List ℕ) (place : ℕ) : Type 0 where

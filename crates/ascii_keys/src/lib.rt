@@ -19,5 +19,5 @@ mod map_iter;
 mod maps;
 
 pub use folded::{Folded, FoldedStr, FoldedString};
-pub use map_iter::FoldedMapIter;
+pub use map_iter::{AsciiMapIter, FoldedMapIter};
 pub use maps::{AsciiMap, FoldedMap};

@@ -6,9 +6,59 @@ ghost use Rattle.std.specs.Prelude.{◌≡◌};
 ghost use Rattle.ascii_keys.specs.Maps.{entry_of};
 
 use crate::folded::FoldedString;
-use ascii::AsciiStr;
+use ascii::{AsciiStr, text};
+use std::collections::btree_map;
 use std::marker::Model;
 use std::slice;
+
+/// An iterator over the entries of an `AsciiMap`.
+#[derive(Drop)]
+pub struct AsciiMapIter<'a, V> {
+    entries: btree_map::Iter<'a, String, V>,
+}
+
+impl<'a, V> Model for AsciiMapIter<'a, V> {
+    ghost use Rattle.ascii_keys.specs.Maps.{Entries, HasAsciiKeys, texts_of};
+
+    ghost Value = { Entries V };
+
+    ghost view = { λ iter. texts_of iter.entries };
+
+    ghost invariant = { λ iter. HasAsciiKeys iter.entries };
+}
+
+impl<'a, V> AsciiMapIter<'a, V> {
+    ghost use Rattle.ascii_keys.specs.Maps.{HasAsciiKeys, texts_of};
+
+    /// Returns an iterator over these entries.
+    pub(crate) fn new(entries: btree_map::Iter<'a, String, V>) -> Self
+        requires { HasAsciiKeys entries }
+        ensures { result ≡ texts_of entries.entry }
+    {
+        AsciiMapIter { entries }
+    }
+}
+
+impl<'a, V> Iterator for AsciiMapIter<'a, V> {
+    type Item = (AsciiStr<'a>, &'a V);
+
+    ghost next_gives = { TakesFirst entry_of };
+
+    ghost remaining = { item_count (λ entries. entries) };
+
+    /// Returns the next key and its value, or `None` if there are none left; it then keeps returning
+    /// `None`.
+    ///
+    ///     let mut ports = AsciiMap::new(alloc);
+    ///     ports.insert(AsciiStr::literal("http"), 80)?;
+    ///     let mut entries = ports.iter();
+    ///     entries.next() // Some(("http", 80))
+    ///     entries.next() // None
+    fn next(&mut self) -> Option<(AsciiStr<'a>, &'a V)> {
+        let (key, value) = self.entries.next()?;
+        Some((text::as_ascii_str_unchecked(key.as_str()), value))
+    }
+}
 
 /// An iterator over the entries of a `FoldedMap`: each key as it was first written, and its value.
 #[derive(Drop)]

@@ -10,18 +10,19 @@
 //! | `AsciiMap` | by bytes | compares with few keys | compares with few keys |
 //! | `FoldedMap` | ignoring ASCII case | compares with few keys | moves the entries after it |
 //!
-//! No map hashes, so no choice of keys makes a look-up slow: it compares O(log n) keys of n.
+//! No map hashes, so no choice of keys makes a look-up slow: it compares O(log n) keys of n. Both can
+//! be walked in the order of their keys.
 //!
-//! A contract sees a map as a function from texts to values (`value_at`, `folded_value_at`), and a
-//! `FoldedMap` also as the list of its entries. A look-up does not allocate.
+//! A contract sees a map as the list of its entries, and as a function from texts to values
+//! (`value_at`, `folded_value_at`). A look-up does not allocate.
 
-ghost use Rattle.std.specs.Prelude.{◌≡◌, ◌+◌, ◌↔◌, ℕ, List, None, Some, IfOk, IsTrue, OnErr, OnOk};
+ghost use Rattle.std.specs.Prelude.{◌≡◌, ◌+◌, ◌↔◌, None, Some, IfOk, IsTrue, OnErr, OnOk};
 ghost use Rattle.std.specs.Prelude.{if◌then◌else◌, is_some};
 ghost use Rattle.std.specs.Option.{option_copied};
 ghost use Rattle.ascii.specs.View.{text_of};
 
 use crate::folded::{FoldedStr, FoldedString};
-use crate::map_iter::FoldedMapIter;
+use crate::map_iter::{AsciiMapIter, FoldedMapIter};
 use ascii::AsciiStr;
 use std::alloc::{AllocError, Global};
 use std::cmp::Ordering;
@@ -39,15 +40,25 @@ pub struct AsciiMap<V> {
     entries: BTreeMap<String, V>,
 }
 
+impl<V> Model for AsciiMap<V> {
+    ghost use Rattle.ascii_keys.specs.Maps.{Entries, HasAsciiKeys, texts_of};
+
+    ghost Value = { Entries V };
+
+    ghost view = { λ map. texts_of map.entries.entries };
+
+    ghost invariant = { λ map. HasAsciiKeys map.entries.entries };
+}
+
 impl<V: Drop> AsciiMap<V> {
-    ghost use Rattle.ascii_keys.specs.Maps.{ChangesAt, HasSame, size_of, value_at};
+    ghost use Rattle.std.specs.Prelude.{[], length};
+    ghost use Rattle.ascii_keys.specs.Maps.{ChangesAt, Walks, value_at};
 
     /// Creates an empty map. Does not allocate.
     ///
     ///     AsciiMap::<u8>::new(alloc).is_empty() // true
     pub fn new(alloc: Global) -> AsciiMap<V>
-        ensures values { (key : List ℕ) → value_at result key ≡ None }
-        ensures size { size_of result ≡ 0 }
+        ensures { result ≡ [] }
     {
         let entries = BTreeMap::new(alloc);
         AsciiMap { alloc, entries }
@@ -90,8 +101,8 @@ impl<V: Drop> AsciiMap<V> {
         ensures puts { OnOk result
             (ChangesAt (text_of key.entry) (Some value) self.old self.new) }
         ensures size { IfOk result (λ before.
-            size_of self.new ≡ size_of self.old + (if is_some before then 0 else 1)) }
-        ensures unchanged { OnErr result (HasSame self.old self.new) }
+            length self.new ≡ length self.old + (if is_some before then 0 else 1)) }
+        ensures unchanged { OnErr result (self.new ≡ self.old) }
     {
         let key = String::from_str(self.alloc, key.as_str())?;
         Ok(self.entries.insert(key, value)?)
@@ -106,7 +117,7 @@ impl<V: Drop> AsciiMap<V> {
     ///     ports.remove(AsciiStr::literal("http")) // None
     pub fn remove(&mut self, key: AsciiStr<'_>) -> Option<V>
         ensures before { result ≡ value_at self.old (text_of key.entry) }
-        ensures size { size_of self.new + (if is_some result then 1 else 0) ≡ size_of self.old }
+        ensures size { length self.new + (if is_some result then 1 else 0) ≡ length self.old }
         ensures removes { ChangesAt (text_of key.entry) None self.old self.new }
     {
         self.entries.remove(key.as_str())
@@ -118,7 +129,7 @@ impl<V: Drop> AsciiMap<V> {
     ///     ports.insert(AsciiStr::literal("http"), 80)? // None
     ///     ports.len() // 1
     pub fn len(&self) -> usize
-        ensures { result ≡ size_of self.now }
+        ensures { result ≡ length self.now }
     {
         self.entries.len()
     }
@@ -129,9 +140,23 @@ impl<V: Drop> AsciiMap<V> {
     ///     ports.insert(AsciiStr::literal(""), 80)? // None
     ///     ports.is_empty() // false
     pub fn is_empty(&self) -> bool
-        ensures { IsTrue result ↔ (size_of self.now ≡ 0) }
+        ensures { IsTrue result ↔ (self.now ≡ []) }
     {
         self.entries.is_empty()
+    }
+
+    /// Returns an iterator over the keys and their values, in the order of the bytes of the keys. Does
+    /// not allocate.
+    ///
+    ///     let mut ports = AsciiMap::new(alloc);
+    ///     ports.insert(AsciiStr::literal("http"), 80)?;
+    ///     ports.insert(AsciiStr::literal("ftp"), 21)?;
+    ///     ports.iter().next() // Some(("ftp", 21))
+    ///     AsciiMap::<u8>::new(alloc).iter().next() // None
+    pub fn iter(&self) -> AsciiMapIter<'_, V>
+        ensures { Walks self.now result }
+    {
+        AsciiMapIter::new(self.entries.iter())
     }
 }
 

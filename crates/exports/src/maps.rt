@@ -8,8 +8,8 @@ use std::alloc::Global;
 use std::collections::{BTreeMap, HashMap};
 
 /// What steps over a map return, each with the length of the map: 0 inserts the number at the step's text, 1 gets, 2 removes,
-/// and any other kind looks whether the key is there. First of a map in which keys differ by case, and then of one that
-/// ignores case. In that one 3 puts the number if there is none, and adds it to the one there; 4 yields all entries.
+/// 4 yields all entries, and any other kind looks whether the key is there. First of a map in which keys differ by case, and
+/// then of one that ignores case. In that one 3 puts the number if there is none, and adds it to the one there.
 pub fn ask_maps(alloc: Global, texts: AsciiStr, steps: &[Step], answer: &mut Answer) {
     let (mut map, mut folded) = (AsciiMap::new(alloc), FoldedMap::new(alloc));
     for step in steps {
@@ -23,6 +23,11 @@ fn put_step(map: &mut AsciiMap<usize>, step: Step, key: AsciiStr, answer: &mut A
         0 => answer.put_result(map.insert(key, step.at)),
         1 => answer.put(map.get(key).copied()),
         2 => answer.put(map.remove(key)),
+        4 => {
+            for (key, value) in map.iter() {
+                answer.put((key, *value));
+            }
+        }
         _ => answer.put(map.contains_key(key)),
     }
     answer.put((map.len(), map.is_empty()));
