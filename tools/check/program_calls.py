@@ -237,7 +237,7 @@ FILTER = [
     Call("an output that is full", ["copy", "text", "none"], b"", 3, b"", FULL, "full"),
 ]
 
-OF_EXAMPLES = b"usage: examples events|head|host|ini|keys|lines|nmea|pager|register|syslog|tally|tokens\n"
+OF_EXAMPLES = b"usage: examples events|head|host|ini|keys|lines|nmea|pager|register|syslog|tally|tokens|uniq\n"
 LINES_OF_A_REGISTER = b"GET\nhello\r\nGET\nno\377ascii\nGET\nQUIT\nGET\n"
 REPLIES_OF_A_REGISTER = b"\nOK\nhello\nBAD\nhello\nBYE\n"
 HEAD = b"GET /a?b HTTP/1.1\r\nHost: a.example\r\nACCEPT:  */* \r\n\r\nbody"
@@ -303,6 +303,9 @@ EXAMPLES = [
     Call("syslog of no line", ["syslog"], b"", 0, b""),
     Call("tally", ["tally"], b"To be, or not\tto BE,\n[to] TO\n", 0, b"1 [to]\n2 be,\n1 not\n1 or\n3 to\n"),
     Call("tally of no word", ["tally"], b" \n", 0, b""),
+    Call("uniq", ["uniq"], b"b\na\r\nb\nB\n\nb", 0, b"1 \n1 B\n1 a\n3 b\n"),
+    Call("uniq of no line", ["uniq"], b"", 0, b""),
+    Call("uniq of a byte above 127", ["uniq"], b"a\nz\303\244\n", 0, b"the byte at index 3 is not ASCII\n"),
     Call("tally of a byte above 127", ["tally"], b"z\303\244\n", 0, b"the byte at index 1 is not ASCII\n"),
     Call("tokens", ["tokens"], b'let x_1 = "a\\"b" + 42; # done\n\ty\n', 0, TOKENS),
     Call("tokens of a text that is not closed", ["tokens"], b'a\n  "b\\"', 0, b"2:3: expected a quoted text\n"),

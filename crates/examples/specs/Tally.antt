@@ -1,20 +1,46 @@
--- How often words occur.
+-- How often texts occur.
+use Rattle.std.specs.Cmp.Lexicographic.{slice_cmp}
 use Rattle.std.specs.Fmt.{decimal}
 use Rattle.std.specs.List.{count_by}
-use Rattle.std.specs.Prelude.{◌≡◌, ℕ, List, [], ◌∷◌, ◌++◌, None, Option, Some, map, suc, zero}
+use Rattle.std.specs.List.Sorted.{IsStrictlySortedBy}
+use Rattle.std.specs.Map.{keys_of}
+use Rattle.std.specs.Ordering.{nat_cmp}
+use Rattle.std.specs.Prelude.{◌≡◌, ℕ, Bool, List, [], ◌∷◌, ◌++◌, None, Option, Some, map, suc, zero}
+use Rattle.std.specs.Str.{bytes_eq}
 use Rattle.ascii.specs.Case.{lower_image}
-use Rattle.ascii_keys.specs.Maps.{Entries, folded_value_at, same_folded}
+use Rattle.ascii.specs.Lines.{Line, bodies}
+use Rattle.ascii_keys.specs.Maps.{Entries, Values, folded_value_at, same_folded, value_at}
 
 -- a number of times, or `None` if it is 0
 abbrev pub some_times : ℕ → Option ℕ
 some_times zero = None
 some_times (suc n) = Some (suc n)
 
--- at each text, `counts` has the number of `words` that are equal to it, ignoring ASCII case
+-- at each text, `counts` has the number of `texts` that are the same by `same`
+abbrev pub CountsBy : (List ℕ → List ℕ → Bool) → List (List ℕ) → Values ℕ → Type 0
+CountsBy same texts counts =
+    (text : List ℕ) → counts text ≡ some_times (count_by (same text) texts)
+
+-- ---- words
+
+-- `counts` has the number of `words` that are equal to each text, ignoring ASCII case
 abbrev pub Counts : List (List ℕ) → Entries ℕ → Type 0
-Counts words counts = (text : List ℕ)
-    → folded_value_at counts text ≡ some_times (count_by (same_folded text) words)
+Counts words counts = CountsBy same_folded words (folded_value_at counts)
 
 -- the line of a word: its count, a space, and the word in lower case
 abbrev pub count_line : List ℕ × ℕ → List ℕ
 count_line entry = decimal entry.1 ++ 32 ∷ (map lower_image entry.0 ++ 10 ∷ [])
+
+-- ---- lines
+
+-- `counts` has the number of `lines` of each text
+abbrev pub CountsLines : List Line → Entries ℕ → Type 0
+CountsLines lines counts = CountsBy bytes_eq (bodies lines) (value_at counts)
+
+-- the texts of `counts` ascend by their bytes
+abbrev pub Ascends : Entries ℕ → Type 0
+Ascends counts = IsStrictlySortedBy (slice_cmp nat_cmp) (keys_of counts)
+
+-- what is printed of a line: its count, a space, and the line
+abbrev pub uniq_line : List ℕ × ℕ → List ℕ
+uniq_line entry = decimal entry.1 ++ 32 ∷ (entry.0 ++ 10 ∷ [])

@@ -13,6 +13,7 @@ mod register;
 mod syslog;
 mod tally;
 mod tokens;
+mod uniq;
 
 use std::env::Env;
 use std::io;
@@ -35,9 +36,10 @@ fn main(rt: HostRuntime) -> io::Result<ExitCode> {
         b"syslog" => syslog::main(rt)?,
         b"tally" => tally::main(rt)?,
         b"tokens" => tokens::main(rt)?,
+        b"uniq" => uniq::main(rt)?,
         _ => {
             eprintln!(rt;
-                "usage: examples events|head|host|ini|keys|lines|nmea|pager|register|syslog|tally|tokens"
+                "usage: examples events|head|host|ini|keys|lines|nmea|pager|register|syslog|tally|tokens|uniq"
             )?;
             return Ok(ExitCode::from(64));
         }

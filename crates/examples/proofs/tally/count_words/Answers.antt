@@ -5,6 +5,8 @@ use Rattle.ascii.specs.ByClass.{words_by}
 use Rattle.ascii.specs.Tests.{is_whitespace}
 use Rattle.ascii.specs.View.{text_of}
 use Rattle.ascii.proofs.ListLemmas.{map-push_front}
+use Rattle.ascii_keys.proofs.FoldedMapLemmas.{same_laws}
+use Rattle.ascii_keys.specs.Maps.{folded_value_at, same_folded}
 use Rattle.examples.proofs.TallyLemmas.{count_fits, counts_next}
 use Rattle.examples.proofs.tally.count_words.Goals as goal
 
@@ -16,7 +18,8 @@ overflow_add-branch c =
     c.in-Some.ensures.steps.0 inv.whole in
     omega (
       arith,
-      count_fits words (text_of c.in-Some.word) c.loop-word.counts inv.counts,
+      count_fits same_folded same_laws words (text_of c.in-Some.word)
+          (folded_value_at c.loop-word.counts) inv.counts,
       inv.fits,
       c.in_ok-get_or_insert.ensures.value,
       simp length-append at (ap length whole),
@@ -33,7 +36,7 @@ loop-word-preserved c =
     let put = c.in_ok-get_or_insert in record {
       whole = whole ∙ sym (map-push_front text_of taken word _);
       fits = inv.fits;
-      counts = rw map_push (counts_next words (text_of word) c.loop-word.counts inv.counts _
-          put.field-0.now put.ensures.value
-          (c.get_or_insert.follows.holds (put.field-0.now + 1) (ap is_ok put.was)));
+      counts = rw map_push (counts_next same_folded same_laws words (text_of word)
+          (folded_value_at c.loop-word.counts) inv.counts _ put.field-0.now put.ensures.value
+          (c.get_or_insert.follows.holds (put.field-0.now + 1) (ap is_ok put.was)).values);
     }
