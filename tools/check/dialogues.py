@@ -1,4 +1,5 @@
 """Dialogues of real clients with the example servers: a connection is the standard input and output of the program."""
+import errno
 import fcntl
 import itertools
 import random
@@ -12,7 +13,7 @@ import termios
 import threading
 import time
 import unittest
-from contextlib import contextmanager
+from contextlib import contextmanager, suppress
 from pathlib import Path
 from typing import NamedTuple
 
@@ -45,16 +46,21 @@ OK = b"250 OK\r\n"
 ARGUMENT, NO_VRFY = b"501 bad argument\r\n", b"252 not verified\r\n"
 PARAMETER = b"555 unknown parameter\r\n"
 DROPPED = b"554 bad message\r\n221 bye\r\n"
-OTHER_BYTES, EXTENSIONS = b"554 the message is not ASCII\r\n", b"250-localhost\r\n250 PIPELINING\r\n"
+OTHER_BYTES = b"554 the message is not ASCII\r\n"
+EXTENSIONS = b"250-localhost\r\n250-PIPELINING\r\n250 SIZE 16777216\r\n"
 LARGE = b"552 message too large\r\n"
 THOUSAND = b"x" * 998 + b"\r\n"
-# Mailboxes and what is none, by the grammar of RFC 5321, 4.1.2, and its limits, 4.5.3.1. A path with a route is rejected.
+# Mailboxes and what is none, by the grammar of RFC 5321, 4.1.2, and its limits, 4.5.3.1. The host of a route is read, and then
+# ignored.
 NAME, DOMAIN = b"n" * 64, b".".join([b"d" * 63] * 4)
 PATHS = [
     *[(path, OK) for path in (b"a@b", b"a.b@c.d", b"!#$%&'*+-/=?^_`{|}~@b", b"A1@b-c.d9", b"a@[127.0.0.1]", b"a@[IPv6:::1]")],
+    *[(path, OK) for path in (b"@a:b@c", b"@a,@b.c:d@e", b"a@[ipV6:1:2:3:4:5:6:1.2.3.4]", b"a@" + DOMAIN[:63])],
+    *[(path, ARGUMENT) for path in (b"@a", b"@a:", b"@:b@c", b"@a,b:c@d", b"@a,:c@d", b"@a@b:c@d", b"@a.:b@c", b"@[1.2.3.4]:b@c", b"a@[1.2.3]", b"a@[1.2.3.256]")],
+    *[(path, ARGUMENT) for path in (b"a@[IPv6:zz]", b"a@[IPv6:1.2.3.4]", b"a@[::1]", b"a@[IPv7:::1]", b"a@d" + DOMAIN[:63])],
     *[(path, OK) for path in (b'"a b"@c', b'"a@b"@c', b'"a\\"b"@c', b'""@c', NAME + b"@b", b"a@" + DOMAIN)],
     *[(path, ARGUMENT) for path in (b"a", b"@b", b"a@", b".a@b", b"a.@b", b"a..b@c", b"a b@c", b"a(b@c", b"a@b@c", b"a@[]", b"a@[b", b"a@b]")],
-    *[(path, ARGUMENT) for path in (b"a@-b", b"a@b-", b"a@b..c", b"a@.b", b"a@b.", b"a@b_c", b'"a"b"@c', b'"a\\"@c', b'"a@c', b"@a:b@c")],
+    *[(path, ARGUMENT) for path in (b"a@-b", b"a@b-", b"a@b..c", b"a@.b", b"a@b.", b"a@b_c", b'"a"b"@c', b'"a\\"@c', b'"a@c')],
     *[(path, ARGUMENT) for path in (b"n" + NAME + b"@b", b"a@" + DOMAIN + b"d", b"<a@b", b"a@b>")],
 ]
 SENDERS = [(b"", OK), (b"postmaster", ARGUMENT)]
@@ -113,7 +119,11 @@ DIALOGUES = [
     mail("a message of a byte more", BEGUN, *[(THOUSAND * 1000, b"")] * 16, (THOUSAND * 777 + b"x" * 215 + b"\r\n.\r\n" + MAIL, LARGE + MAILED)),
     mail("a client that asks for extensions", (b"EHLO c\r\nEHLO \r\n", EXTENSIONS + ARGUMENT)),
     mail("the last error", (b"HELO c\r\n" + b"x\r\n" * 18 + b"NOOP\r\nDATA\r\n\xff\r\nNOOP\r\n", OK + b"500 unknown command\r\n" * 18 + OK + b"503 bad sequence\r\n421 closing\r\n")),
-    mail("parameters after a path", (b"HELO c\r\nMAIL FROM:<a@b> SIZE=1\r\nMAIL FROM:<a@b>\r\nRCPT TO:<c@d> NOTIFY=NEVER\r\n", OK + PARAMETER + OK + PARAMETER)),
+    mail("parameters after a path", (b"HELO c\r\nMAIL FROM:<a@b> BODY=8BITMIME\r\nMAIL FROM:<a@b>\r\nRCPT TO:<c@d> SIZE=1\r\n", OK + PARAMETER + OK + PARAMETER)),
+    *[mail(f"a message with {word}", (b"HELO c\r\nMAIL FROM:<\"a> SIZE=1\"@b> " + word + b"\r\nRSET\r\n", OK + said + OK))
+      for word, said in [(b"SIZE=0", OK), (b"size=16777216", OK), (b"SIZE=16777217", LARGE), (b"SIZE=18446744073709551615", LARGE)]],
+    *[mail(f"a message with {word}", (b"HELO c\r\nMAIL FROM:<a@b> " + word + b"\r\nMAIL FROM:<>\r\n", OK + PARAMETER + OK))
+      for word in (b"SIZE", b"SIZE=", b"SIZE=+1", b"SIZE=1x", b"SIZE=1 SIZE=1", b"SIZE=18446744073709551616")],
     mail("commands without an argument", (b"HELO\r\nEHLO\r\nVRFY\r\nHELO  \r\nVRFY \t\r\n", ARGUMENT * 5)),
     mail("white space after a command", (b"HELO c \t\r\nMAIL FROM:<a@b> \r\nRCPT TO:<c@d>\t\r\nDATA  \r\n. \r\n.\r\n", BEGUN[1] + OK),
          (b"VRFY c \r\nRSET \r\nNOOP\t\r\nQUIT \r\n", NO_VRFY + OK * 2 + b"221 bye\r\n")),
@@ -155,10 +165,11 @@ def start(program, connection, *words):
 
 
 def received(connection, size):
-    """The next bytes of a connection, fewer at its end or if no more come in time."""
+    """The next bytes of a connection, fewer at its end. It ends with a reset where the program left before it had read all."""
     got = b""
-    while len(got) < size and (more := connection.recv(size - len(got))):
-        got += more
+    with suppress(ConnectionResetError):
+        while len(got) < size and (more := connection.recv(size - len(got))):
+            got += more
     return got
 
 
@@ -224,7 +235,7 @@ class TalksInPieces(Talks):
                 while at < len(sent):
                     piece = sent[at : at + lengths.randint(1, 12)]
                     client.sendall(piece)
-                    self.wait_until_read(client)
+                    got += self.taken_until_read(client, most)
                     at += len(piece)
                     got += taken(client, most)
                 client.shutdown(socket.SHUT_WR)
@@ -232,10 +243,15 @@ class TalksInPieces(Talks):
                 pass
             return got + received(client, 1 << 20)
 
-    def wait_until_read(self, client):
-        ends = time.monotonic() + WAIT
+    def taken_until_read(self, client, most):
+        """Waits until all that was sent is read. The program reads nothing while the queue of its replies is full, so after a while
+        some of them are taken."""
+        got, began = b"", time.monotonic()
         while int.from_bytes(fcntl.ioctl(client, termios.TIOCOUTQ, bytes(4)), "little"):
-            self.assertLess(time.monotonic(), ends, "seconds")
+            waited = time.monotonic() - began
+            self.assertLess(waited, WAIT, "seconds")
+            got += taken(client, most) if waited > 0.05 else b""
+        return got
 
 
 def taken(connection, most):
@@ -274,7 +290,7 @@ class SendsMail(unittest.TestCase):
     def runTest(self):
         with listening("example_smtp") as port, smtplib.SMTP(timeout=WAIT) as client:
             self.assertEqual(client.connect("127.0.0.1", port), (220, b"ready"))
-            self.assertEqual(client.ehlo("client"), (250, b"localhost\nPIPELINING"))
+            self.assertEqual(client.ehlo("client"), (250, b"localhost\nPIPELINING\nSIZE 16777216"))
             self.assertEqual(client.sendmail("a@b", ["c@d", "e@f"], "Subject: x\n\n.dot\nbye\n"), {})
             self.assertEqual(client.quit(), (221, b"bye"))
 
@@ -385,6 +401,48 @@ class StoresInOrder(unittest.TestCase):
         return steps
 
 
+class SurvivesFailures(unittest.TestCase):
+    """A session is killed at each of its system calls, and each fails once. A mail that got its 250 is stored, once and whole; one
+    without it is not, unless the session ended before its reply was written. Where a call fails, no draft is left but by a
+    removal that failed."""
+
+    MAILS = [b"one\r\n", b"two\r\nlines\r\n", b"three\r\n"]
+    ERRORS = [errno.EIO, errno.ENOSPC]
+
+    def __str__(self):
+        return "example_smtp: a system call that fails, and an end at each"
+
+    def run_with(self, at=None, error=0):
+        """The calls, the replies to the mails, the texts of the mails that are stored, and the drafts."""
+        program = TOP / "crates/example_smtp/out/example_smtp"
+        with tempfile.TemporaryDirectory() as folder, tempfile.TemporaryFile() as sent, tempfile.TemporaryFile() as said:
+            sent.write(b"".join(BEGUN[0] + text + b".\r\n" for text in self.MAILS))
+            sent.seek(0)
+            try:
+                calls = list(traced.calls_of([str(program), folder], sent, said, at, error))
+            except OSError as why:
+                self.skipTest(f"processes cannot be traced here: {why}")
+            said.seek(0)
+            parts = said.read().removeprefix(HELLO[1]).split(BEGUN[1])[1:]
+            read = lambda name: sorted(it.read_bytes() for it in (Path(folder) / name).glob("*"))
+            return calls, parts, read("new"), read("tmp")
+
+    def runTest(self):
+        whole, parts, new, _ = self.run_with()
+        self.assertEqual((parts, new), ([OK] * 3, sorted(ENVELOPE + text for text in self.MAILS)))
+        first = next(at for at, call in enumerate(whole) if call.name == "open" and Path(call.paths[0]).parent.name == "tmp")
+        for at, error in itertools.product(range(first, len(whole)), [0, *self.ERRORS]):
+            calls, parts, new, tmp = self.run_with(at, error)
+            stored = [ENVELOPE + text for text, part in zip(self.MAILS, parts) if part == OK]
+            said = f"{whole[at].name} {at} with error {error}: {parts}, {new}, {tmp}"
+            is_cut_off = not error or whole[at].file == 1 and whole[at].name == "write"
+            # Only of the mail whose reply could not be written.
+            unsaid = [[]] + [[ENVELOPE + text] for text in self.MAILS[len(stored):][:1] if is_cut_off]
+            self.assertIn(new, [sorted(stored + more) for more in unsaid], said)
+            self.assertTrue(is_cut_off or parts == [OK if ENVELOPE + text in new else b"451 not stored\r\n" for text in self.MAILS], said)
+            self.assertTrue(not error or not tmp or whole[at].name == "unlink", said)
+
+
 class Command(NamedTuple):
     """A client that may be installed: `PORT` and `FILE` in its words stand for the port and a file with `text`."""
 
@@ -437,7 +495,8 @@ class Runs(unittest.TestCase):
 
 def tests():
     short = [it for it in DIALOGUES if sum(len(sent) for sent, _ in it.steps) <= TalksInPieces.LONGEST]
-    with_folders = [SendsMail(), CountsMail(), StoresMail(), RejectsFolder(), StoresInOrder()]
+    with_folders = [SendsMail(), CountsMail(), StoresMail(), RejectsFolder(), StoresInOrder(),
+                    SurvivesFailures()]
     others = [beside.BesidePostfix(), beside.BesideRedis()]
     return [*map(Talks, DIALOGUES), *map(TalksInPieces, short), *with_folders, *map(Runs, COMMANDS), *others]
 

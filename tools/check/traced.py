@@ -5,7 +5,7 @@ import os
 import signal
 from typing import NamedTuple
 
-TRACEME, SYSCALL, GETREGS, SETOPTIONS = 0, 24, 12, 0x4200
+TRACEME, SYSCALL, GETREGS, SETREGS, SETOPTIONS = 0, 24, 12, 13, 0x4200
 # Options: a stop at a system call has this bit in its signal, and the program ends with its tracer.
 BIT, OPTIONS = 0x80, 0x1 | 0x100000
 # The members of the kernel's `user_regs_struct` that are read here, by their index.
@@ -69,10 +69,12 @@ def begin(words, stdin, stdout):
     return process
 
 
-def calls_of(words, stdin, stdout):
-    """Runs a program between two files, and yields each of its calls of NAMES when it has returned. Raises OSError if processes
-    cannot be traced here."""
+def calls_of(words, stdin, stdout, at=None, error=0):
+    """Runs a program between two files, and yields each of its calls of NAMES when it has returned. The one with the index `at` is
+    not made: it returns this error, or without an error the program is killed in its place. Raises OSError if processes cannot be
+    traced here."""
     process, registers, is_after, passed = begin(words, stdin, stdout), (ctypes.c_ulong * MEMBERS)(), False, 0
+    index, number = -1, None
     with open(f"/proc/{process}/mem", "rb", buffering=0) as memory:
         while True:
             ptrace(SYSCALL, process, None, passed)
@@ -81,9 +83,21 @@ def calls_of(words, stdin, stdout):
                 return
             stopped = os.WSTOPSIG(status)
             passed = 0 if stopped == signal.SIGTRAP | BIT else stopped
-            if not passed:
-                if is_after:
-                    ptrace(GETREGS, process, None, registers)
-                    if registers[NUMBER] in NAMES:
-                        yield call_of(registers, memory)
-                is_after = not is_after
+            if passed:
+                continue
+            ptrace(GETREGS, process, None, registers)
+            if not is_after:
+                number = registers[NUMBER]
+                index += number in NAMES
+            is_at = number in NAMES and index == at
+            if is_at and not error:
+                os.kill(process, signal.SIGKILL)
+                os.waitpid(process, 0)
+                return
+            if is_at:
+                # A call without a number does nothing.
+                registers[NUMBER], registers[RAX] = (number, -error) if is_after else (-1, -errno.ENOSYS)
+                ptrace(SETREGS, process, None, registers)
+            if is_after and number in NAMES:
+                yield call_of(registers, memory)
+            is_after = not is_after

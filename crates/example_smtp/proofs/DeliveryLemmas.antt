@@ -159,12 +159,15 @@ module _ (old new : State) (line : List ℕ) (said : Option Reply) (apart : old.
     | inl unknown ↦ stays old new None (Some line) said
         (part_by said reply _ is (said_it ∙ unknown.0) refl) apart same
     | inr bad ↦ elim bad.6 [
-      | inl parameter ↦
+      | inl large ↦
           stays old new None (Some line) said
-          (part_by said reply _ is (said_it ∙ parameter.1) refl) apart same
-      | inr argument ↦
+          (part_by said reply _ is (said_it ∙ large.1) refl) apart same
+      | inr (inl parameter) ↦
           stays old new None (Some line) said
-          (part_by said reply _ is (said_it ∙ argument.1) refl) apart same
+          (part_by said reply _ is (said_it ∙ parameter.2) refl) apart same
+      | inr (inr argument) ↦
+          stays old new None (Some line) said
+          (part_by said reply _ is (said_it ∙ argument.2) refl) apart same
     ]
   ]
 

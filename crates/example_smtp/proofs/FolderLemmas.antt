@@ -1,5 +1,5 @@
 -- What is in a folder of mail, and what is stored in it.
-use Rattle.std.proofs.Common.{◌≡◌, ◌∙◌, ◌<◌, ℕ, List, [], ◌∷◌, ◌++◌, None, Option, Some, ap, append-nil}
+use Rattle.std.proofs.Common.{◌≡◌, ◌∙◌, ℕ, List, [], ◌∷◌, ◌++◌, None, Option, Some, ap, append-nil}
 use Rattle.std.proofs.Common.{append_assoc, arith, refl, subst, sym}
 use Rattle.std.proofs.Common.{map}
 use Rattle.example_smtp.specs.Folder.{Contents, Stores, StoresIn, after_call, after_calls}

@@ -1,3 +1,4 @@
+pub mod ArgumentLemmas
 pub mod DeliveryLemmas
 pub mod FolderLemmas
 pub mod PathLemmas

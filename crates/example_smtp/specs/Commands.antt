@@ -1,11 +1,14 @@
 -- The commands of a client, the lines that say them, and the lines that reply to them.
-use Rattle.std.specs.Prelude.{◌≡◌, ◌≢◌, ◌⊎◌, ℕ, List, [], ◌∷◌, ◌++◌, MatchResult, codes}
+use Rattle.std.specs.Prelude.{◌≡◌, ◌≢◌, ◌⊎◌, ◌<◌, ◌≤◌, ◌^◌, ◌-◌, ℕ, List, [], ◌∷◌, ◌++◌}
+use Rattle.std.specs.Prelude.{MatchResult, codes}
+use Rattle.std.specs.List.{Contains}
 use Rattle.std.specs.declared.result.Result.{Result}
 use Rattle.ascii.specs.Class.{IsBlank}
-use Rattle.ascii.specs.Search.{ContainsText, IgnoringCase, IsPrefix, StartsWith}
+use Rattle.ascii.specs.Search.{ContainsText, IgnoringCase, IsCut, IsPrefix, StartsWith}
 use Rattle.ascii.specs.Trim.{TrimsEnd}
 use Rattle.ascii.specs.View.{text_of}
-use Rattle.example_smtp.specs.Paths.{IsBetween, IsRecipient, IsSender}
+use Rattle.ascii_formats.specs.Numbers.{WritesNumber}
+use Rattle.example_smtp.specs.Paths.{IsPath, IsRecipient, IsSender}
 use Rattle.example_smtp.specs.declared.commands.Command.{Command}
 use Rattle.example_smtp.specs.declared.commands.Command.TheVariants.{AddRecipient, BeginLines, Extend}
 use Rattle.example_smtp.specs.declared.commands.Command.TheVariants.{Introduce, Leave, Reset}
@@ -29,20 +32,39 @@ name_of Vrfy = codes "VRFY"
 name_of Noop = codes "NOOP"
 name_of Quit = codes "QUIT"
 
--- `path` is `address` between `<` and `>`
-abbrev pub IsPath : List ℕ → List ℕ → Type 0
-IsPath address path = IsBetween (codes "<") (codes ">") path address
-
 -- `argument` is a space and then `word`, which is not empty
 abbrev pub IsWord : List ℕ → List ℕ → Type 0
 IsWord word argument = IsPrefix (codes " ") argument word × (word ≢ [])
+
+-- the most bytes of the text of a message
+abbrev pub most_bytes : ℕ
+most_bytes = 16777216
+
+-- `argument` is `path`, and then ` SIZE=`, in any case, and a number of bytes, `size`
+pub record IsSized (argument path : List ℕ) (size : ℕ) : Type 0 where
+  pub word : List ℕ
+  pub digits : List ℕ
+  pub cut : IsCut (λ _ word. ¬ (Contains word 32)) (codes " ") argument path word
+  pub named : IgnoringCase (λ name. IsPrefix name word digits) (codes "SIZE=")
+  pub written : WritesNumber (2 ^ 64 - 1) digits size
+
+-- `path` is that of `address`, from which a message may come
+abbrev pub IsSenderPath : List ℕ → List ℕ → Type 0
+IsSenderPath address path = IsPath address path × IsSender address
+
+-- `argument` is the path of the sender `address`, perhaps with the size of the message after it,
+-- which is not too large
+abbrev pub SaysSender : List ℕ → List ℕ → Type 0
+SaysSender address argument = IsSenderPath address argument
+    ⊎ ((path : List ℕ) × (size : ℕ) × IsSized argument path size × (size ≤ most_bytes)
+    × IsSenderPath address path)
 
 -- `argument` is as `verb` takes it: a space and a domain, the path of a sender or of a recipient, a
 -- space and a mailbox, nothing or what a space starts, or nothing
 abbrev pub IsArgument : Verb → List ℕ → Type 0
 IsArgument Helo argument = (domain : List ℕ) × IsWord domain argument
 IsArgument Ehlo argument = (domain : List ℕ) × IsWord domain argument
-IsArgument Mail argument = (address : List ℕ) × IsPath address argument × IsSender address
+IsArgument Mail argument = (address : List ℕ) × SaysSender address argument
 IsArgument Rcpt argument = (address : List ℕ) × IsPath address argument × IsRecipient address
 IsArgument Vrfy argument = (mailbox : List ℕ) × IsWord mailbox argument
 IsArgument Noop argument = (argument ≡ []) ⊎ StartsWith (codes " ") argument
@@ -53,7 +75,7 @@ abbrev pub HasParts : Verb → List ℕ → Command → Type 0
 HasParts verb argument (Introduce domain) = (verb ≡ Helo) × IsWord (text_of domain) argument
 HasParts verb argument (Extend domain) = (verb ≡ Ehlo) × IsWord (text_of domain) argument
 HasParts verb argument (SetSender address) =
-    (verb ≡ Mail) × IsPath (text_of address) argument × IsSender (text_of address)
+    (verb ≡ Mail) × SaysSender (text_of address) argument
 HasParts verb argument (AddRecipient address) =
     (verb ≡ Rcpt) × IsPath (text_of address) argument × IsRecipient (text_of address)
 HasParts verb argument BeginLines = (verb ≡ Data) × (argument ≡ [])
@@ -64,11 +86,19 @@ HasParts verb argument command.Reply =
     (verb ≡ Noop) × ((argument ≡ []) ⊎ StartsWith (codes " ") argument)
 HasParts verb argument Leave = (verb ≡ Quit) × (argument ≡ [])
 
--- the reply to an argument that is not as its verb takes it: there may be a parameter after a path
+-- `argument` says the size of a message that is too large
+abbrev pub IsTooLarge : List ℕ → Type 0
+IsTooLarge argument =
+    (path : List ℕ) × (size : ℕ) × IsSized argument path size × (most_bytes < size)
+
+-- the reply to an argument that is not as its verb takes it: there may be a size or another parameter
+-- after a path
 abbrev pub IsArgumentFault : List ℕ → Reply → Type 0
-IsArgumentFault argument fault =
-    (ContainsText (codes "> ") argument × (fault ≡ reply.UnknownParameter))
-    ⊎ (¬ (ContainsText (codes "> ") argument) × (fault ≡ reply.BadArgument))
+IsArgumentFault argument fault = (IsTooLarge argument × (fault ≡ reply.LargeMessage))
+    ⊎ (¬ (IsTooLarge argument) × ContainsText (codes "> ") argument
+    × (fault ≡ reply.UnknownParameter))
+    ⊎ (¬ (IsTooLarge argument) × ¬ (ContainsText (codes "> ") argument)
+    × (fault ≡ reply.BadArgument))
 
 -- `line` begins with the name of `verb`, in any case
 abbrev pub BeginsWithVerb : List ℕ → Verb → Type 0
@@ -109,7 +139,8 @@ IsForeign line = StartsWith (codes "GET ") line ⊎ StartsWith (codes "POST ") l
 abbrev pub reply_line : Reply → List ℕ
 reply_line reply.Bye = codes "221 bye"
 reply_line reply.Done = codes "250 OK"
-reply_line reply.Extensions = codes "250-localhost" ++ 13 ∷ 10 ∷ codes "250 PIPELINING"
+reply_line reply.Extensions = codes "250-localhost" ++ 13 ∷ 10 ∷ (codes "250-PIPELINING"
+    ++ 13 ∷ 10 ∷ codes "250 SIZE 16777216")
 reply_line reply.Received = codes "250 OK"
 reply_line reply.SendLines = codes "354 send the lines"
 reply_line reply.Unverified = codes "252 not verified"

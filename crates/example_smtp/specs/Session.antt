@@ -12,7 +12,7 @@ use Rattle.ascii_lines.specs.declared.line_reader.LineError.{LineError}
 use Rattle.ascii_lines.specs.declared.line_reader.LineError.TheVariants.{LoneBreak, NotAscii, TooLong}
 use Rattle.ascii_lines.specs.declared.serving.Next.{Next}
 use Rattle.ascii_lines.specs.declared.serving.Next.TheVariants as next
-use Rattle.example_smtp.specs.Commands.{IsForeign, ReadsCommand, reply_line}
+use Rattle.example_smtp.specs.Commands.{IsForeign, ReadsCommand, most_bytes, reply_line}
 use Rattle.example_smtp.specs.Folder.{StoresIn}
 use Rattle.example_smtp.specs.Mail.{State, file_of, idle, no_mail, unstuffed}
 use Rattle.example_smtp.specs.declared.commands.Command.{Command}
@@ -101,10 +101,6 @@ AnswersCommand old line said new = (IsStranger old line × (said ≡ reply.Closi
     (λ fault. (said ≡ fault) × (new ≡ old))))
 
 -- ---- the lines of a message
-
--- the most bytes of the text of a message
-abbrev pub most_bytes : ℕ
-most_bytes = 16777216
 
 -- the message has a fault, and its text is dropped
 abbrev pub spoiled : State → Fault → State

@@ -3,12 +3,18 @@
 ghost use Rattle.std.specs.Prelude.{◌↔◌, ◌≡◌, IsTrue, List, MatchOption, ℕ};
 ghost use Rattle.ascii.specs.View.{text_of};
 ghost use Rattle.example_smtp.specs.Commands.{BeginsWithVerb, HasParts, IsArgument};
-ghost use Rattle.example_smtp.specs.Commands.{IsArgumentFault, IsCall, IsForeign, IsPath, IsWord};
-ghost use Rattle.example_smtp.specs.Commands.{ReadsCommand, name_of, reply_line};
+ghost use Rattle.example_smtp.specs.Commands.{IsArgumentFault, IsCall, IsForeign, IsSenderPath};
+ghost use Rattle.example_smtp.specs.Commands.{IsSized, IsTooLarge, IsWord, ReadsCommand, SaysSender};
+ghost use Rattle.example_smtp.specs.Commands.{name_of, reply_line};
 
-use crate::paths::{between, is_recipient, is_sender};
+use crate::paths::{address_of, is_recipient, is_sender};
+use ascii::AsciiChar;
 use ascii::classes::Blank;
+use ascii_formats::AsciiStrExt;
 use ascii_lines::AsciiStr;
+
+/// The most bytes of the text of a message.
+pub const MOST_BYTES: usize = 16_777_216;
 
 /// What a client may ask for.
 #[derive(Clone, Copy, PartialEq, Eq, Debug)]
@@ -82,7 +88,7 @@ pub enum Reply {
     Bye,
     /// The command was carried out.
     Done,
-    /// The extensions: commands may be sent together.
+    /// The extensions: commands may be sent together, and a size be said before a message.
     Extensions,
     /// The message was stored.
     Received,
@@ -128,7 +134,9 @@ impl Reply {
         match self {
             Reply::Bye => AsciiStr::literal("221 bye"),
             Reply::Done => AsciiStr::literal("250 OK"),
-            Reply::Extensions => AsciiStr::literal("250-localhost\r\n250 PIPELINING"),
+            Reply::Extensions => {
+                AsciiStr::literal("250-localhost\r\n250-PIPELINING\r\n250 SIZE 16777216")
+            }
             Reply::Received => AsciiStr::literal("250 OK"),
             Reply::SendLines => AsciiStr::literal("354 send the lines"),
             Reply::Unverified => AsciiStr::literal("252 not verified"),
@@ -235,10 +243,10 @@ fn command_of<'a>(verb: Verb, argument: AsciiStr<'a>) -> Option<Command<'a>>
             let domain = word_of(argument)?;
             Some(Command::Extend { domain })
         }
-        Verb::Mail => match address_of(argument) {
-            Some(address) if is_sender(address) => Some(Command::SetSender { address }),
-            _ => None,
-        },
+        Verb::Mail => {
+            let address = sender_of(argument)?;
+            Some(Command::SetSender { address })
+        }
         Verb::Rcpt => match address_of(argument) {
             Some(address) if is_recipient(address) => Some(Command::AddRecipient { address }),
             _ => None,
@@ -256,11 +264,68 @@ fn command_of<'a>(verb: Verb, argument: AsciiStr<'a>) -> Option<Command<'a>>
     }
 }
 
+/// Returns whom a message comes from by this argument, or `None` if the argument does not say so.
+fn sender_of<'a>(argument: AsciiStr<'a>) -> Option<AsciiStr<'a>>
+    ensures { MatchOption result
+        ((address : List ℕ) → ¬ (SaysSender address (text_of argument.entry)))
+        (λ address. SaysSender (text_of address) (text_of argument.entry)) }
+{
+    if let Some(address) = sender_in(argument) {
+        return Some(address);
+    }
+    let (path, size) = sized(argument)?;
+    if size > MOST_BYTES as u64 {
+        return None;
+    }
+    sender_in(path)
+}
+
+/// Returns the sender whose path this is, or `None` if it is that of none.
+fn sender_in<'a>(path: AsciiStr<'a>) -> Option<AsciiStr<'a>>
+    ensures { MatchOption result
+        ((address : List ℕ) → ¬ (IsSenderPath address (text_of path.entry)))
+        (λ address. IsSenderPath (text_of address) (text_of path.entry)) }
+{
+    let address = address_of(path)?;
+    if is_sender(address) {
+        Some(address)
+    } else {
+        None
+    }
+}
+
+/// Returns the path and the size of a message that an argument says, or `None` if it says no size.
+fn sized<'a>(argument: AsciiStr<'a>) -> Option<(AsciiStr<'a>, u64)>
+    ensures { MatchOption result
+        ((path : List ℕ) (size : ℕ) → ¬ (IsSized (text_of argument.entry) path size))
+        (λ sized. IsSized (text_of argument.entry) (text_of sized.0) sized.1) }
+{
+    let (path, word) = argument.rsplit_once(AsciiChar::Space)?;
+    let digits = word.strip_prefix_ignore_ascii_case(AsciiStr::literal("SIZE="))?;
+    match digits.to_number::<u64>() {
+        Ok(size) => Some((path, size)),
+        Err(_) => None,
+    }
+}
+
+/// Returns `true` if an argument says the size of a message that is too large.
+#[tactic(auto, using(crate::proofs::ArgumentLemmas::large_size))]
+fn is_too_large(argument: AsciiStr<'_>) -> bool
+    ensures { IsTrue result ↔ IsTooLarge (text_of argument.entry) }
+{
+    match sized(argument) {
+        Some((_, size)) => size > MOST_BYTES as u64,
+        None => false,
+    }
+}
+
 /// Returns the reply to an argument that is not as its verb takes it.
 fn argument_fault(argument: AsciiStr<'_>) -> Reply
     ensures { IsArgumentFault (text_of argument.entry) result }
 {
-    if argument.contains(AsciiStr::literal("> ")) {
+    if is_too_large(argument) {
+        Reply::LargeMessage
+    } else if argument.contains(AsciiStr::literal("> ")) {
         Reply::UnknownParameter
     } else {
         Reply::BadArgument
@@ -297,12 +362,4 @@ fn word_of<'a>(argument: AsciiStr<'a>) -> Option<AsciiStr<'a>>
         Some(word) => Some(word),
         None => None,
     }
-}
-
-/// Returns the address between `<` and `>`, or `None` if the path has not both.
-fn address_of<'a>(path: AsciiStr<'a>) -> Option<AsciiStr<'a>>
-    ensures { MatchOption result ((address : List ℕ) → ¬ (IsPath address (text_of path.entry)))
-        (λ address. IsPath (text_of address) (text_of path.entry)) }
-{
-    between(path, AsciiStr::literal("<"), AsciiStr::literal(">"))
 }

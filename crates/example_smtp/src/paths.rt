@@ -1,14 +1,16 @@
 //! The paths of mail: whom it comes from, and whom it goes to.
 
 ghost use Rattle.std.specs.Prelude.{◌↔◌, ℕ, IsTrue, List, MatchOption, false};
+ghost use Rattle.ascii.specs.Code.{code_of};
 ghost use Rattle.ascii.specs.View.{text_of};
-ghost use Rattle.example_smtp.specs.Paths.{AreDotted, IsAddressCode, IsAtom};
-ghost use Rattle.example_smtp.specs.Paths.{IsBetween, IsDomain, IsLabel, IsLiteral, IsMailbox};
-ghost use Rattle.example_smtp.specs.Paths.{IsName, IsQuoted, IsQuotedText, IsRecipient, IsSender};
-ghost use Rattle.example_smtp.specs.declared.paths.TheConstants.{ADDRESS};
+ghost use Rattle.example_smtp.specs.Paths.{AreBetween, IsAddress, IsAtom, IsBetween, IsDomain};
+ghost use Rattle.example_smtp.specs.Paths.{IsDomainName, IsHop, IsLabel, IsLiteral, IsMailbox};
+ghost use Rattle.example_smtp.specs.Paths.{IsName, IsPath, IsQuoted, IsQuotedText, IsRecipient};
+ghost use Rattle.example_smtp.specs.Paths.{IsSender, IsTaggedAddress};
 
-use ascii::classes::{self, ByRanges, Label, Ranges};
+use ascii::classes::{self, Label};
 use ascii::{AsciiChar, AsciiStr};
+use std::net::{Ipv4Addr, Ipv6Addr};
 
 /// The most characters of the name of a mailbox.
 const MOST_OF_NAME: usize = 64;
@@ -16,25 +18,26 @@ const MOST_OF_NAME: usize = 64;
 /// The most characters of a domain.
 const MOST_OF_DOMAIN: usize = 255;
 
-/// The ranges of `AddressText`.
-pub struct AddressRanges;
+/// The most characters of a label of a domain.
+const MOST_OF_LABEL: usize = 63;
 
-const ADDRESS: [(u8, u8); 4] = [(b'-', b'.'), (b'0', b':'), (b'A', b'Z'), (b'a', b'z')];
-
-impl Ranges for AddressRanges {
-    ghost set = { IsAddressCode };
-
-    ghost list = { ADDRESS };
-
-    ghost matches = { λ _. (λ is. is, λ is. is) };
-
-    fn ranges() -> &'static [(u8, u8)] {
-        &ADDRESS
+/// Returns the address in a path, which is what is between `<` and `>`, without the route with which it may begin; or
+/// `None` if the text is not a path.
+pub fn address_of<'a>(path: AsciiStr<'a>) -> Option<AsciiStr<'a>>
+    ensures { MatchOption result ((address : List ℕ) → ¬ (IsPath address (text_of path.entry)))
+        (λ address. IsPath (text_of address) (text_of path.entry)) }
+{
+    let inner = between(path, AsciiStr::literal("<"), AsciiStr::literal(">"))?;
+    if !inner.starts_with(AsciiStr::literal("@")) {
+        return Some(inner);
+    }
+    let (route, address) = inner.split_once(AsciiChar::Colon)?;
+    if are_between::<Hop>(route, AsciiChar::Comma) && is_mailbox(address) {
+        Some(address)
+    } else {
+        None
     }
 }
-
-/// The characters of an address in brackets.
-type AddressText = ByRanges<AddressRanges>;
 
 /// Returns `true` if a message may come from this.
 pub fn is_sender(text: AsciiStr<'_>) -> bool
@@ -65,17 +68,24 @@ fn is_mailbox(text: AsciiStr<'_>) -> bool
 fn is_name(text: AsciiStr<'_>) -> bool
     ensures { IsTrue result ↔ IsName (text_of text.entry) }
 {
-    text.len() <= MOST_OF_NAME && (are_dotted::<Atom>(text) || is_quoted(text))
+    text.len() <= MOST_OF_NAME && (are_between::<Atom>(text, AsciiChar::Dot) || is_quoted(text))
 }
 
 /// Returns `true` if the text is a domain.
 fn is_domain(text: AsciiStr<'_>) -> bool
     ensures { IsTrue result ↔ IsDomain (text_of text.entry) }
 {
-    text.len() <= MOST_OF_DOMAIN && (are_dotted::<DomainLabel>(text) || is_literal(text))
+    is_domain_name(text) || is_literal(text)
 }
 
-/// What each part between dots has to be.
+/// Returns `true` if the text is the name of a domain.
+fn is_domain_name(text: AsciiStr<'_>) -> bool
+    ensures { IsTrue result ↔ IsDomainName (text_of text.entry) }
+{
+    text.len() <= MOST_OF_DOMAIN && are_between::<DomainLabel>(text, AsciiChar::Dot)
+}
+
+/// What each part between dots or commas has to be.
 trait Part {
     ghost is: { List ℕ → Type 0 };
 
@@ -103,17 +113,32 @@ impl Part for DomainLabel {
 
     fn accepts(text: AsciiStr<'_>) -> bool {
         !text.is_empty()
+            && text.len() <= MOST_OF_LABEL
             && text.is_all::<Label>()
             && text.first() != Some(AsciiChar::Minus)
             && text.last() != Some(AsciiChar::Minus)
     }
 }
 
-/// Returns `true` if each part of the text between dots is accepted.
-fn are_dotted<P: Part>(text: AsciiStr<'_>) -> bool
-    ensures { IsTrue result ↔ AreDotted P.is (text_of text.entry) }
+/// A host of a route: `@` and the name of a domain.
+struct Hop;
+
+impl Part for Hop {
+    ghost is = { IsHop };
+
+    fn accepts(text: AsciiStr<'_>) -> bool {
+        match text.strip_prefix(AsciiStr::literal("@")) {
+            Some(name) => is_domain_name(name),
+            None => false,
+        }
+    }
+}
+
+/// Returns `true` if each part of the text between the separators is accepted.
+fn are_between<P: Part>(text: AsciiStr<'_>, separator: AsciiChar) -> bool
+    ensures { IsTrue result ↔ AreBetween (code_of separator) P.is (text_of text.entry) }
 {
-    for part in text.split(AsciiChar::Dot) {
+    for part in text.split(separator) {
         if !P::accepts(part) {
             return false;
         }
@@ -150,18 +175,31 @@ fn is_literal(text: AsciiStr<'_>) -> bool
     ensures { IsTrue result ↔ IsLiteral (text_of text.entry) }
 {
     match between(text, AsciiStr::literal("["), AsciiStr::literal("]")) {
-        Some(inner) => !inner.is_empty() && inner.is_all::<AddressText>(),
+        Some(inner) => is_address(inner),
+        None => false,
+    }
+}
+
+/// Returns `true` if the text is an address of the Internet, of which one of IPv6 has its tag before it.
+fn is_address(text: AsciiStr<'_>) -> bool
+    ensures { IsTrue result ↔ IsAddress (text_of text.entry) }
+{
+    Ipv4Addr::parse_ascii(text.as_bytes()).is_ok() || is_tagged_address(text)
+}
+
+/// Returns `true` if the text is `IPv6:`, in any case, and an address of IPv6.
+fn is_tagged_address(text: AsciiStr<'_>) -> bool
+    ensures { IsTrue result ↔ IsTaggedAddress (text_of text.entry) }
+{
+    match text.strip_prefix_ignore_ascii_case(AsciiStr::literal("IPv6:")) {
+        Some(address) => Ipv6Addr::parse_ascii(address.as_bytes()).is_ok(),
         None => false,
     }
 }
 
 /// Returns the text between an opening and a closing text, or `None` if the text has not both.
 #[tactic(auto, using(std::proofs::lemmas::List::append_cancel_left))]
-pub fn between<'a>(
-    text: AsciiStr<'a>,
-    start: AsciiStr<'_>,
-    end: AsciiStr<'_>,
-) -> Option<AsciiStr<'a>>
+fn between<'a>(text: AsciiStr<'a>, start: AsciiStr<'_>, end: AsciiStr<'_>) -> Option<AsciiStr<'a>>
     ensures { MatchOption result ((inner : List ℕ)
         → ¬ (IsBetween (text_of start.entry) (text_of end.entry) (text_of text.entry) inner))
         (λ inner. IsBetween (text_of start.entry) (text_of end.entry) (text_of text.entry)

@@ -9,7 +9,7 @@ ghost use Rattle.example_smtp.specs.Session.{Fits, IsAllowed, fault_of, is_error
 ghost use Rattle.example_smtp.specs.Session.{refusal_of, reply_lines, reply_of_fault, reply_to};
 ghost use Rattle.example_smtp.specs.Session.{reset_stage};
 
-use crate::commands::{Command, Reply, is_foreign, read_command};
+use crate::commands::{Command, MOST_BYTES, Reply, is_foreign, read_command};
 use crate::folder::Folder;
 use crate::mailbox::Mailbox;
 use crate::message::{Message, append_line, unstuff};
@@ -20,9 +20,6 @@ use std::mem::replace;
 
 /// The most recipients of a message.
 const MOST_RECIPIENTS: usize = 1_000;
-
-/// The most bytes of the text of a message.
-const MOST_BYTES: usize = 16_777_216;
 
 /// The error of a client at which it is left.
 const LAST_ERROR: usize = 20;
