@@ -20,7 +20,7 @@ use Rattle.ascii_lines.specs.Wanted.{MayHave, MustRead}
 use Rattle.ascii_lines.specs.declared.line_reader.LineError.{LineError}
 use Rattle.ascii_lines.specs.declared.wanted.Found.{Found}
 use Rattle.ascii_lines.specs.declared.wanted.Wanted.{Wanted}
-use Rattle.ascii_lines.specs.declared.wanted.Wanted.TheVariants.{Line, Part}
+use Rattle.ascii_lines.specs.declared.wanted.Wanted.TheVariants.{Line, Part, Until}
 use Rattle.ascii_lines.proofs.WantedLemmas.{ends_front, ends_whole, may_front, must_reads, rejects}
 use Rattle.ascii_lines.proofs.WantedLemmas.{searched_front, searched_none, searched_whole}
 use Rattle.ascii_lines.proofs.WantedLemmas.{usable_least, some_length}
@@ -113,6 +113,7 @@ module _ (wanted : Wanted) (start : ℕ) (buffer : WindowState) (n : ℕ)
           → FindsFault what bytes (Some i)
           → IsStrict what × IsLoneBreak wanted buffer.size buffer.held buffer.is_at_end i n
       go (Part count) is_last stops found = absurd (none-some i (sym found))
+      go (Until code) is_last stops found = absurd (none-some i (sym found))
       go _ true stops found =
           let free = rw found.0 at stops.2 in (
             found.0,
@@ -145,6 +146,8 @@ module _ (wanted : Wanted) (start : ℕ) (buffer : WindowState) (n : ℕ)
   one : (wanted : Wanted) (is_last : Bool) → StopsBy wanted buffer n is_last
       → IsSearched wanted buffer.held (n - 1) → FindsFault wanted bytes None
       → MayBeLast wanted is_last → bytes ≢ [] → IsOne wanted bytes
+  one (Until code) is_last stops free whole last some =
+      rw long (searched_front buffer.held n (n - 1) (omega arith) (Until code) free)
   one wanted is_last stops free whole last some = grind (arith, line, long)
 
   -- it is given

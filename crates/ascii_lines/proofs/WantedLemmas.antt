@@ -1,6 +1,6 @@
 -- Whether what is wanted is among some bytes, and why it is not given.
 use Rattle.std.proofs.Common.{◌≡◌, ◌≢◌, ℕ, ◌+◌, ◌<◌, ◌≤◌, List, Bool, length, take, arith, get_or}
-use Rattle.std.proofs.Common.{sym, [], ◌∷◌, refl, ◌-◌}
+use Rattle.std.proofs.Common.{sym, [], ◌∷◌, refl, ◌-◌, ◌∙◌}
 use Rattle.std.proofs.lemmas.List.{get_or-take}
 use Rattle.std.proofs.lemmas.Str.{IsAscii-take}
 use Rattle.std.specs.Str.{IsAscii}
@@ -12,7 +12,7 @@ use Rattle.ascii_lines.specs.Wanted.{IsOtherIn, IsRefusal, Rejects}
 use Rattle.ascii_lines.specs.declared.line_reader.LineError.{LineError}
 use Rattle.ascii_lines.specs.declared.line_reader.LineError.TheVariants as error
 use Rattle.ascii_lines.specs.declared.wanted.Wanted.{Wanted}
-use Rattle.ascii_lines.specs.declared.wanted.Wanted.TheVariants.{Line, Bytes, Part}
+use Rattle.ascii_lines.specs.declared.wanted.Wanted.TheVariants.{Line, Bytes, Part, Until}
 
 pub some_length : (text : List ℕ) → text ≢ [] → 0 < length text
 some_length [] some = absurd (some refl)
@@ -35,25 +35,40 @@ module _ (held : List ℕ) (m n : ℕ) (low : n ≤ m) where
       → IsSearched wanted (take m held) n
   searched_front (Line endings) free = FreeUpTo-same endings held (take m held) n at_whole free
   searched_front (Bytes endings) free = FreeUpTo-same endings held (take m held) n at_whole free
+  searched_front (Until code) lacks = λ k less is. lacks k less (at_whole k less ∙ is)
   searched_front (Part count) free = tt
 
   pub ends_front : (wanted : Wanted) → EndsAt wanted held n → EndsAt wanted (take m held) n
-  ends_front wanted ends = grind (arith, IsFirstStop-same, at_whole)
+  ends_front (Until code) (some, last, lacks) = (
+    some,
+    at_front (n - 1) (omega (arith, some)) ∙ last,
+    λ k less is. lacks k less (at_whole k (omega (arith, less)) ∙ is),
+  )
+  ends_front (Line endings) ends = IsFirstStop-same endings held (take m held) n at_whole ends
+  ends_front (Bytes endings) ends = IsFirstStop-same endings held (take m held) n at_whole ends
+  ends_front (Part count) ends = ends
 
   pub lacks_whole : (wanted : Wanted) → LacksUpTo wanted (take m held) n
       → LacksUpTo wanted held n
   lacks_whole (Line endings) free = FreeUpTo-same endings (take m held) held n at_front free
   lacks_whole (Bytes endings) free = FreeUpTo-same endings (take m held) held n at_front free
+  lacks_whole (Until code) lacks = λ k less is. lacks k less (at_front k less ∙ is)
   lacks_whole (Part count) low = low
 
   pub searched_whole : (wanted : Wanted) → IsSearched wanted (take m held) n
       → IsSearched wanted held n
   searched_whole (Part count) free = tt
-  searched_whole (Line endings) free = lacks_whole (Line endings) free
-  searched_whole (Bytes endings) free = lacks_whole (Bytes endings) free
+  searched_whole wanted free = lacks_whole wanted free
 
   pub ends_whole : (wanted : Wanted) → EndsAt wanted (take m held) n → EndsAt wanted held n
-  ends_whole wanted ends = grind (arith, IsFirstStop-same, at_front)
+  ends_whole (Until code) (some, last, lacks) = (
+    some,
+    at_whole (n - 1) (omega (arith, some)) ∙ last,
+    λ k less is. lacks k less (at_front k (omega (arith, less)) ∙ is),
+  )
+  ends_whole (Line endings) ends = IsFirstStop-same endings (take m held) held n at_front ends
+  ends_whole (Bytes endings) ends = IsFirstStop-same endings (take m held) held n at_front ends
+  ends_whole (Part count) ends = ends
 
 pub searched_none : (wanted : Wanted) (text : List ℕ) → IsSearched wanted text 0
 searched_none wanted text = grind arith

@@ -174,6 +174,26 @@ YieldsPart n old (Ok part) new = Takes (wanted.Part n) old (text_of part.text) n
     × (length (text_of part.text) ≡ n) × (part.start ≡ old.start) × (new.stage ≡ Open)
 YieldsPart n old (Err error) new = StopsAt (wanted.Part n) old error new
 
+-- the reader returned one text without `code`: either the code comes after it, and the reader is
+-- open; or the text is the last of the input, and the reader has ended
+pub record TakesText (code : ℕ) (old : ReaderState) (part : ReadPart) (new : ReaderState)
+    : Type 0 where
+  pub start : part.start ≡ old.start
+  pub free : LacksUpTo (wanted.Until code) (text_of part.text) (length (text_of part.text))
+  pub whole : (Takes (wanted.Until code) old (text_of part.text ++ code ∷ []) new
+      × (new.stage ≡ Open))
+      ⊎ (Takes (wanted.Until code) old (text_of part.text) new × (text_of part.text ≢ [])
+      × IsDone new)
+
+-- what an open reader returns of a text up to `code`. `Some`: the next text, which fits in the
+-- buffer with the code. `None`: there are no more bytes, and the reader has ended. `Err`: the
+-- reader has stopped, and why
+abbrev pub YieldsText
+    : ℕ → ReaderState → Result (Option ReadPart) LineError → ReaderState → Type 0
+YieldsText code old (Ok (Some part)) new = TakesText code old part new
+YieldsText code old (Ok None) new = Takes (wanted.Until code) old [] new × IsDone new
+YieldsText code old (Err error) new = StopsAt (wanted.Until code) old error new
+
 -- a result of `next_line` as a line with its start
 abbrev pub line_result
     : Result (Option ReadLine) LineError → Result (Option (WithStart Line)) LineError
@@ -242,6 +262,20 @@ abbrev pub NextPart : {S : Type 0}
     → ℕ → Reading S → Result ReadPart LineError → Reading S → Type 0
 NextPart n old result new = NextPartFrom old.state.stage n old result new
 
+-- what a reader at a stage returns of a text up to `code`. At `Open`, `YieldsText` says what. At
+-- `Ended` it returns `None`, at `Refused` the error that it returned before, and then reader and
+-- source are unchanged
+abbrev pub NextTextFrom : {S : Type 0}
+    → Stage → ℕ → Reading S → Result (Option ReadPart) LineError → Reading S → Type 0
+NextTextFrom Open code old result new = YieldsText code old.state result new.state
+NextTextFrom Ended code old result new = (result ≡ Ok None) × (new ≡ old)
+NextTextFrom (Refused error) code old result new = (result ≡ Err error) × (new ≡ old)
+
+-- what a reader returns of a text up to `code`, by its stage
+abbrev pub NextText : {S : Type 0}
+    → ℕ → Reading S → Result (Option ReadPart) LineError → Reading S → Type 0
+NextText code old result new = NextTextFrom old.state.stage code old result new
+
 -- ---- one line after another
 
 -- `text` is the bytes that were held in the state `old`, and after them those that the source has
@@ -282,6 +316,12 @@ pub record IsBytesAt (endings : Endings) (start : ℕ) (bytes : List ℕ) (line 
     pub exact : LineSpansEndedBy endings start bytes (read_bytes_in line ∷ [])
     pub ended : IsFirstStop endings bytes (length bytes) → line.ending ≢ Absent
     pub text : TextOf start line.bytes.now line.text
+
+-- the text of `bytes`, which have `code` as their last byte or not at all
+pub record IsTextBefore (code : ℕ) (bytes text : List ℕ) : Type 0 where
+  pub free : LacksUpTo (wanted.Until code) text (length text)
+  pub ended : EndsAt (wanted.Until code) bytes (length bytes) → bytes ≡ text ++ code ∷ []
+  pub last : LacksUpTo (wanted.Until code) bytes (length bytes) → text ≡ bytes
 
 -- what was taken from a buffer is what is wanted; or all bytes that were left, among which it is
 -- not, and a read has returned no bytes

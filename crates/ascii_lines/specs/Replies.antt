@@ -96,10 +96,10 @@ at_end_before (byte ∷ others) is_at_end = false
 
 -- the line or part of these bytes. A line has an ending if the bytes end where one does
 abbrev pub IsInputOf : Wanted → List ℕ → Line → Type 0
-IsInputOf (wanted.Part n) bytes input = (input.body ≡ bytes) × (input.ending ≡ Absent)
 IsInputOf (wanted.Line endings) bytes input =
     LinesEndedBy endings bytes (input ∷ []) × (line_text input ≡ bytes)
     × (IsFirstStop endings bytes (length bytes) → input.ending ≢ Absent)
 IsInputOf (wanted.Bytes endings) bytes input =
     LinesEndedBy endings bytes (input ∷ []) × (line_text input ≡ bytes)
     × (IsFirstStop endings bytes (length bytes) → input.ending ≢ Absent)
+IsInputOf wanted bytes input = (input.body ≡ bytes) × (input.ending ≡ Absent)

@@ -17,40 +17,45 @@ use Rattle.ascii_lines.specs.declared.line_reader.LineError.TheVariants.{NotAsci
 use Rattle.ascii_lines.specs.declared.line_reader.LineError.TheVariants.{TooLong, TooFar}
 use Rattle.ascii_lines.specs.declared.line_reader.LineError.TheVariants.{Incomplete, Read}
 use Rattle.ascii_lines.specs.declared.wanted.Wanted.{Wanted}
-use Rattle.ascii_lines.specs.declared.wanted.Wanted.TheVariants.{Line, Bytes, Part}
+use Rattle.ascii_lines.specs.declared.wanted.Wanted.TheVariants.{Line, Bytes, Part, Until}
 
 -- ---- what is wanted
 
--- the bytes may be in what is wanted: in a line and in a part all are ASCII
+-- the bytes may be in what is wanted: all are ASCII, except in a line that may have any
 abbrev pub MayHave : Wanted → List ℕ → Type 0
 MayHave (Bytes endings) bytes = ⊤
 MayHave wanted bytes = IsAscii bytes
 
 -- what is wanted is not among the first `n` bytes of `text`: none of them ends a line or shows a
--- lone CR or LF; or the part is longer
+-- lone CR or LF; or the part is longer; or none of them is the code
 abbrev pub LacksUpTo : Wanted → List ℕ → ℕ → Type 0
 LacksUpTo (Line endings) text n = FreeUpTo endings text n
 LacksUpTo (Bytes endings) text n = FreeUpTo endings text n
 LacksUpTo (Part count) text n = n < count
+LacksUpTo (Until code) text n = (k : ℕ) → k < n → slice_index text k ≢ code
 
 -- the first `n` bytes of `text` are what is wanted: the last of them is the first that ends a line
--- or shows a lone CR or LF; or they are as many as the part has
+-- or shows a lone CR or LF; or they are as many as the part has; or the last is the first of the
+-- code
 abbrev pub EndsAt : Wanted → List ℕ → ℕ → Type 0
 EndsAt (Line endings) text n = IsFirstStop endings text n
 EndsAt (Bytes endings) text n = IsFirstStop endings text n
 EndsAt (Part count) text n = n ≡ count
+EndsAt (Until code) text n =
+    (0 < n) × (slice_index text (n - 1) ≡ code) × LacksUpTo (Until code) text (n - 1)
 
--- the bytes are one line, or a part of this length
+-- the bytes are one line, or a part of this length, or have the code as the last at most
 abbrev pub IsOne : Wanted → List ℕ → Type 0
 IsOne (Line endings) bytes = IsOneLine endings bytes
 IsOne (Bytes endings) bytes = IsOneLine endings bytes
 IsOne (Part count) bytes = length bytes ≡ count
+IsOne (Until code) bytes = LacksUpTo (Until code) bytes (length bytes - 1)
 
 -- a lone CR or LF is a fault in what is wanted
 abbrev pub IsStrict : Wanted → Type 0
 IsStrict (Line endings) = endings ≡ CrLfStrict
 IsStrict (Bytes endings) = endings ≡ CrLfStrict
-IsStrict (Part count) = ⊥
+IsStrict wanted = ⊥
 
 -- ---- when the source is read
 
@@ -63,6 +68,8 @@ MustRead (Line endings) start size held =
     (length held ≤ size) × IsAscii held × FreeUpTo endings held (length held)
 MustRead (Bytes endings) start size held =
     (length held ≤ size) × FreeUpTo endings held (length held)
+MustRead (Until code) start size held =
+    (length held ≤ size) × IsAscii held × LacksUpTo (Until code) held (length held)
 MustRead (Part count) start size held = (length held < count) × IsAscii held × (count ≤ size)
     × (start + count < 2 ^ 64)
 
@@ -199,7 +206,7 @@ IsUnfit (Part count) start size (TooLong place) = (place ≡ start) × (size < c
 IsUnfit (Part count) start size TooFar = 2 ^ 64 - 1 < start + count
 IsUnfit wanted start size error = ⊥
 
--- the first `n` bytes of `text` were searched for the end of a line
+-- the first `n` bytes of `text` were searched for the end of a line, or for the code
 abbrev pub IsSearched : Wanted → List ℕ → ℕ → Type 0
 IsSearched (Part count) text n = ⊤
 IsSearched wanted text n = LacksUpTo wanted text n
@@ -208,7 +215,7 @@ IsSearched wanted text n = LacksUpTo wanted text n
 abbrev pub FindsFault : Wanted → List ℕ → Option ℕ → Type 0
 FindsFault (Line endings) bytes found = FindsLoneBreak endings bytes found
 FindsFault (Bytes endings) bytes found = FindsLoneBreak endings bytes found
-FindsFault (Part count) bytes found = found ≡ None
+FindsFault wanted bytes found = found ≡ None
 
 -- the bytes may be the last of the input: a part is not, if it is longer
 abbrev pub MayBeLast : Wanted → Bool → Type 0

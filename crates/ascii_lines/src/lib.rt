@@ -11,6 +11,7 @@
 //! | read lines that may have other bytes than ASCII | `LineReader::next_bytes` |
 //! | choose which endings end a line | `Endings`, an argument of `LineReader::new` |
 //! | read a part of an announced length | `LineReader::read_exact_part` |
+//! | read a text up to a character of your choice | `LineReader::next_until` |
 //! | go on after a line that was rejected | `LineReader::skip_line` |
 //! | change a state by each line | `fold_lines`, with a `LineStep` |
 //! | keep all lines, or those up to an empty one | `collect_lines`, `read_block` |

@@ -105,7 +105,7 @@ impl<A: Allocator> LineBuffer<A> {
     {
         let end = match wanted {
             Wanted::Bytes(_) => self.filled,
-            Wanted::Line(_) | Wanted::Part(_) => self.checked,
+            Wanted::Line(_) | Wanted::Part(_) | Wanted::Until(_) => self.checked,
         };
         &self.bytes[self.from..self.from + (end - self.from).min(self.size)]
     }

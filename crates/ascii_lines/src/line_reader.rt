@@ -5,14 +5,17 @@ ghost use Rattle.std.specs.Str.{IsAscii};
 ghost use Rattle.ascii.specs.Endings.{IsFirstStop, IsOneLine};
 ghost use Rattle.ascii.specs.Spans.{LineSpansEndedBy};
 ghost use Rattle.ascii_devices.specs.States.{source_state};
-ghost use Rattle.ascii_lines.specs.LineReader.{IsBytesAt, read_line_in};
+ghost use Rattle.ascii.specs.View.{text_of};
+ghost use Rattle.ascii_lines.specs.LineReader.{IsBytesAt, IsTextBefore, read_line_in};
+ghost use Rattle.ascii_lines.specs.Wanted.{IsOne};
+ghost use Rattle.ascii_lines.specs.declared.wanted.Wanted.TheVariants.{Until};
 
 use crate::line_cursor::LineCursor;
 use crate::skipping::SkippedLine;
 use crate::wanted::Wanted;
 use ascii::endings::split_ending;
 use ascii::iter::{Ending, Endings};
-use ascii::{AsciiStr, bytes};
+use ascii::{AsciiChar, AsciiStr, bytes};
 use ascii_devices::Source;
 use std::alloc::{AllocError, Allocator, Global};
 use std::marker::Model;
@@ -63,7 +66,7 @@ pub struct ReadBytes<'a> {
     pub ending: Ending,
 }
 
-/// A part of an input, of a length that the caller has named.
+/// A part of an input, of a length or up to a character that the caller has named.
 #[derive(Clone, Copy, PartialEq, Eq, Debug)]
 pub struct ReadPart<'a> {
     /// The position of its first byte in the input, counted from 0.
@@ -106,7 +109,8 @@ impl<S: Source, A: Allocator> Model for LineReader<S, A> {
 impl<S: Source, A: Allocator> LineReader<S, A> {
     ghost use Rattle.std.specs.Borrow.{sem};
     ghost use Rattle.std.specs.Io.BufRead.{Rests};
-    ghost use Rattle.ascii_lines.specs.LineReader.{Next, NextBytes, NextPart};
+    ghost use Rattle.ascii_lines.specs.LineReader.{Next, NextBytes, NextPart, NextText};
+    ghost use Rattle.ascii.specs.Code.{code_of};
     ghost use Rattle.ascii_lines.specs.LineReader.{ended_by, fresh_reader};
     ghost use Rattle.ascii_lines.specs.Skipping.{Skips};
     ghost use Rattle.ascii_lines.specs.contracts.line_reader.LineReader.{the_row};
@@ -306,6 +310,44 @@ impl<S: Source, A: Allocator> LineReader<S, A> {
         })
     }
 
+    /// Returns the text up to the next `end` with its start, or `None` if there are no more bytes, or an
+    /// error. The `end` is taken too, but is not in the text. Only the last text of the input may have
+    /// no `end` after it. `find -print0` prints file names in this form, each with a NUL after it.
+    ///
+    /// A CR or an LF is a character like any other, unless it is `end`: the endings of the reader do
+    /// not matter here. Calls of `next_line` and the others may come before and after this one, in any
+    /// order: the next line, part or text starts after `end`.
+    ///
+    /// - `NotAscii` if the text has a non-ASCII byte among those of its bytes that fit in the buffer.
+    ///   The error has the position of the first one.
+    /// - `TooLong` if the text is longer than the buffer, with its `end`, and those of its bytes that
+    ///   fit are ASCII. The error has the start of the text.
+    /// - `TooFar` if the text or its `end` has a byte at the position `u64::MAX` or after it.
+    /// - `Read` if a call of the source failed, or `u64::MAX` calls have failed before.
+    ///
+    /// What an error or `None` leaves, and when the source is read, is as for `next_line`. After an
+    /// error `skip_line` reads over a line, up to its ending: no call reads over a text up to `end`.
+    ///
+    ///     let source = Input::new(b"a\0b\nc\0\0d".as_slice());
+    ///     let mut reader = LineReader::new(alloc, source, 64, Endings::Any)?;
+    ///     reader.next_until(AsciiChar::Null) // Ok(Some(ReadPart { start: 0, text: "a" }))
+    ///     reader.next_until(AsciiChar::Null) // Ok(Some(ReadPart { start: 2, text: "b\nc" }))
+    ///     reader.next_until(AsciiChar::Null) // Ok(Some(ReadPart { start: 6, text: "" }))
+    ///     reader.next_until(AsciiChar::Null) // Ok(Some(ReadPart { start: 7, text: "d" }))
+    ///     reader.next_until(AsciiChar::Null) // Ok(None)
+    pub fn next_until(&mut self, end: AsciiChar) -> Result<Option<ReadPart<'_>>, LineError>
+        ensures* next { sem 𝓛 (Rests (the_row S.row A.row S.Source A.Allocator) self.entry
+            (NextText (code_of end) self.old result)) }
+    {
+        let (start, code) = (self.cursor.start(), end.as_byte());
+        if self.cursor.advance(&mut self.source, Wanted::Until(code))? {
+            let text = text_before(code, self.cursor.line_bytes());
+            Ok(Some(ReadPart { start, text }))
+        } else {
+            Ok(None)
+        }
+    }
+
     /// Reads over the next line, or over the line at fault after `NotAscii`, `LoneBreak` or `TooLong`, up to its
     /// ending, and returns what was skipped; the next call then reads on. The line may have any bytes and any
     /// length up to `most` bytes, its ending included. If the input ends before its ending, it is skipped up to
@@ -353,6 +395,19 @@ pub(crate) fn line_at(endings: Endings, start: u64, line: &[u8]) -> ReadLine<'_>
         text: bytes::as_ascii_str_unchecked(body),
         ending,
     }
+}
+
+/// The text of bytes of which only the last one may be `code`.
+fn text_before(code: u8, bytes: &[u8]) -> AsciiStr<'_>
+    requires ascii { IsAscii bytes.now }
+    requires one { IsOne (Until code) bytes.now }
+    ensures { IsTextBefore code bytes.now (text_of result) }
+{
+    let text = match bytes.split_last() {
+        Some((last, text)) if *last == code => text,
+        _ => bytes,
+    };
+    bytes::as_ascii_str_unchecked(text)
 }
 
 /// The same of bytes of which some may not be ASCII, from the position after them.

@@ -515,7 +515,7 @@ pub(crate) fn input_at(wanted: Wanted, start: u64, bytes: &[u8]) -> ReadLine<'_>
 {
     match wanted {
         Wanted::Line(endings) | Wanted::Bytes(endings) => line_at(endings, start, bytes),
-        Wanted::Part(_) => ReadLine {
+        Wanted::Part(_) | Wanted::Until(_) => ReadLine {
             start,
             text: bytes::as_ascii_str_unchecked(bytes),
             ending: Ending::Absent,

@@ -6,12 +6,14 @@ ghost use Rattle.ascii_lines.specs.LineReader.{FindsEnd, IsLookedFor, Looks, Tak
 ghost use Rattle.ascii_lines.specs.Wanted.{EndsAt, LacksUpTo, Refuses};
 ghost use Rattle.ascii_lines.specs.Wanted.{FindsFault, IsEndOf, IsRefusal, IsSearched, IsUnfit};
 ghost use Rattle.ascii_lines.specs.Wanted.{KnowsEnd, MayFit};
+ghost use Rattle.ascii_lines.specs.declared.wanted.Wanted.TheVariants.{Until};
 
 use crate::line_buffer::LineBuffer;
 use crate::line_reader::LineError;
 use ascii::endings::{find_end, lone_break};
 use ascii::iter::Endings;
 use ascii_devices::Source;
+use memchr::memchr;
 use std::alloc::Allocator;
 
 /// What a reader is asked for.
@@ -23,6 +25,8 @@ pub(crate) enum Wanted {
     Bytes(Endings),
     /// The next part, of this number of bytes.
     Part(usize),
+    /// The next text up to this code.
+    Until(u8),
 }
 
 /// Where what is wanted is in a buffer.
@@ -126,6 +130,21 @@ fn find(wanted: Wanted, text: &[u8], searched: usize) -> Option<usize>
         Wanted::Line(endings) => find_end(endings, text, searched),
         Wanted::Bytes(endings) => find_end(endings, text, searched),
         Wanted::Part(count) => (count <= text.len()).then_some(count),
+        Wanted::Until(code) => find_code(code, text, searched),
+    }
+}
+
+/// The number of bytes up to the first `code`, with it. It is not among the first `searched`.
+#[inline]
+fn find_code(code: u8, text: &[u8], searched: usize) -> Option<usize>
+    requires within { searched ≤ length text.now }
+    requires searched { LacksUpTo (Until code) text.now searched }
+    ensures { MatchOption result (LacksUpTo (Until code) text.now (length text.now))
+        (λ n. (n ≤ length text.now) × EndsAt (Until code) text.now n) }
+{
+    match memchr(code, &text[searched..]) {
+        Some(place) => Some(searched + place + 1),
+        None => None,
     }
 }
 
@@ -175,7 +194,7 @@ fn find_lone_break(wanted: Wanted, bytes: &[u8]) -> Option<usize>
     match wanted {
         Wanted::Line(endings) => lone_break(endings, bytes),
         Wanted::Bytes(endings) => lone_break(endings, bytes),
-        Wanted::Part(_) => None,
+        Wanted::Part(_) | Wanted::Until(_) => None,
     }
 }
 
