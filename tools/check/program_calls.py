@@ -237,7 +237,7 @@ FILTER = [
     Call("an output that is full", ["copy", "text", "none"], b"", 3, b"", FULL, "full"),
 ]
 
-OF_EXAMPLES = b"usage: examples events|head|host|ini|keys|lines|nmea|pager|register|syslog|tally|tokens|uniq\n"
+OF_EXAMPLES = b"usage: examples events|head|host|ini|keys|lines|nmea|pager|paths|register|syslog|tally|tokens|uniq\n"
 LINES_OF_A_REGISTER = b"GET\nhello\r\nGET\nno\377ascii\nGET\nQUIT\nGET\n"
 REPLIES_OF_A_REGISTER = b"\nOK\nhello\nBAD\nhello\nBYE\n"
 HEAD = b"GET /a?b HTTP/1.1\r\nHost: a.example\r\nACCEPT:  */* \r\n\r\nbody"
@@ -296,6 +296,10 @@ EXAMPLES = [
     Call("pager", ["pager"], TEXT, 0, b"the two lines that are l\nonger than one row\nend\n"),
     Call("pager of a byte above 127", ["pager"], b"two\n\303\244\n", 0, b"the byte at index 4 is not ASCII\n"),
     Call("pager of a word that is not there", ["pager"], b"four\none\n", 0, b"'four' not found\n"),
+    Call("paths", ["paths"], b"./a-1/b_2.c\0./-a\0-\0b\n c\0\0\r\0d!", 0, b'"./-a"\n"-"\n"b\\n c"\n"\\r"\n"d!"\n'),
+    Call("paths of a byte above 127", ["paths"], b"a\0b:\0c\303\244\0d:", 0, b'"b:"\nthe byte at index 6 is not ASCII\n'),
+    Call("paths of a long name", ["paths"], b"a" * 4095 + b"\0" + b"-" * 4097, 0,
+         b"the line or part at index 4096 is longer than the buffer\n"),
     Call("register", ["register"], LINES_OF_A_REGISTER, 0, REPLIES_OF_A_REGISTER, b"Closed\n"),
     Call("events", ["events"], LINES_OF_A_REGISTER, 0, REPLIES_OF_A_REGISTER, b"Some(Closed)\n"),
     Call("events to the end of the input", ["events"], b"a\nGET", 0, b"OK\na\n", b"Some(EndOfInput)\n"),

@@ -1,6 +1,7 @@
 pub mod Entries
 pub mod Head
 pub mod Log
+pub mod Paths
 pub mod Reading
 pub mod Register
 pub mod Search

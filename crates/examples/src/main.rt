@@ -9,6 +9,7 @@ mod keys;
 mod lines;
 mod nmea;
 mod pager;
+mod paths;
 mod register;
 mod syslog;
 mod tally;
@@ -32,6 +33,7 @@ fn main(rt: HostRuntime) -> io::Result<ExitCode> {
         b"lines" => lines::main(rt)?,
         b"nmea" => nmea::main(rt)?,
         b"pager" => pager::main(rt)?,
+        b"paths" => paths::main(rt)?,
         b"register" => register::main(rt)?,
         b"syslog" => syslog::main(rt)?,
         b"tally" => tally::main(rt)?,
@@ -39,7 +41,7 @@ fn main(rt: HostRuntime) -> io::Result<ExitCode> {
         b"uniq" => uniq::main(rt)?,
         _ => {
             eprintln!(rt;
-                "usage: examples events|head|host|ini|keys|lines|nmea|pager|register|syslog|tally|tokens|uniq"
+                "usage: examples events|head|host|ini|keys|lines|nmea|pager|paths|register|syslog|tally|tokens|uniq"
             )?;
             return Ok(ExitCode::from(64));
         }
