@@ -56,18 +56,18 @@ impl<'a> Model<'a> {
 
     /// The next line.
     pub fn next_line(&mut self) -> Result<Line<'a>, Stop> {
-        self.next(true)
+        self.next(true, None)
     }
 
-    /// The next line, which is ASCII or may have any bytes.
-    pub fn next(&mut self, is_ascii: bool) -> Result<Line<'a>, Stop> {
+    /// The next line, which is ASCII or may have any bytes; or the next text up to a byte.
+    pub fn next(&mut self, is_ascii: bool, until: Option<u8>) -> Result<Line<'a>, Stop> {
         if let Some(error) = self.error {
             return Err(error);
         }
         if self.has_ended {
             return Err(None);
         }
-        let (line, calls) = self.line(is_ascii);
+        let (line, calls) = self.line(is_ascii, until);
         self.calls = self.calls.max(calls);
         match line {
             Ok((body, ending, next)) => {
@@ -86,10 +86,10 @@ impl<'a> Model<'a> {
         }
     }
 
-    /// The next line and where the one after it starts, by the first byte that shows a fault; and how many calls of the
-    /// source that takes.
-    fn line(&self, is_ascii: bool) -> (Result<(&'a [u8], &'static str, usize), Stop>, usize) {
-        let (start, is_strict) = (self.start, self.endings == 2);
+    /// The next line or text and where the one after it starts, by the first byte that shows a fault; and how many calls
+    /// of the source that takes.
+    fn line(&self, is_ascii: bool, until: Option<u8>) -> (Result<(&'a [u8], &'static str, usize), Stop>, usize) {
+        let (start, is_strict) = (self.start, self.endings == 2 && until.is_none());
         let mut place = start;
         let line = loop {
             let byte = match self.at(place) {
@@ -102,6 +102,8 @@ impl<'a> Model<'a> {
             match byte {
                 _ if place - start == self.size => break Err(Some(Fault("long", Some(start)))),
                 128.. if is_ascii => break Err(Some(Fault("ascii", Some(place)))),
+                _ if until == Some(byte) => break Ok((&self.source[start..place], "until", place + 1)),
+                _ if until.is_some() => place += 1,
                 b'\n' if self.follows_cr(place) => break Ok((&self.source[start..place - 1], "crlf", place + 1)),
                 b'\n' if self.endings == 0 => break Ok((&self.source[start..place], "lf", place + 1)),
                 b'\n' if is_strict => break Err(Some(Fault("lone", Some(place)))),
@@ -194,11 +196,12 @@ impl<'a> Model<'a> {
             match step.kind {
                 0 => want.put(self.next_line()),
                 4 => want.put(self.part(step.at)),
-                5 => want.put(self.next(false).map(|(start, body, ending)| {
+                5 => want.put(self.next(false, None).map(|(start, body, ending)| {
                     let text = non_ascii(body).map_or(Ok(body), |at| Err(("ascii", start + at)));
                     (start, body, text, ending)
                 })),
                 6 => want.put(self.skip(step.at)),
+                7 => want.put(self.next(true, Some(step.code)).map(|(start, text, _)| (start, text))),
                 kind => self.endings = kind - 1,
             }
             want.put(self.start);

@@ -97,13 +97,14 @@ pub fn ask_lines(source: &[u8], size: usize, endings: u8, device: Device, is_asc
     ask_steps(&mut Model::new(source, size), source, size, device, &steps, asked);
 }
 
-/// Lines, parts, endings and skipped lines, in any order, also after an error.
+/// Lines, parts, texts, endings and skipped lines, in any order, also after an error.
 fn mixed_steps(random: &mut Random, size: usize) -> Vec<Step> {
-    let step = |random: &mut Random| match random.below(9) {
+    let step = |random: &mut Random| match random.below(10) {
         0 => Step { kind: 1 + random.below(3) as u8, ..Step::default() },
         1 | 2 => Step { kind: 4, at: random.part_length(size), ..Step::default() },
         3 | 4 => Step { kind: 5, ..Step::default() },
         5 => Step { kind: 6, at: random.part_length(size), ..Step::default() },
+        6 => Step { kind: 7, code: *random.pick(b"\n\rac"), ..Step::default() },
         _ => Step::default(),
     };
     (0..1 + random.count(12)).map(|_| step(random)).collect()

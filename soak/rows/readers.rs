@@ -25,6 +25,15 @@ pub static ROWS: &[Row] = &[
         }
     }),
     ("calls_over_every_short_text", calls_over_texts),
+    ("texts_up_to_nul_of_every_short_text", |rows| {
+        for (run, text) in texts_of(b"\0\r\na\xc8", 6).into_iter().enumerate() {
+            for size in 0..5 {
+                let fails = (run + size) % (text.len() + 3);
+                let (steps, device) = ([Step { kind: 7, ..Step::default() }; 7], Device { fails: fails as u64, ..giving(1) });
+                rows.ask(|asked| ask_steps(&mut Model::failing(&text, size, fails), &text, size, device, &steps, asked));
+            }
+        }
+    }),
     ("collected_lines", collected),
     ("lines_of_20_000_characters", |rows| {
         let text = ("ab".repeat(10_000) + "\r\n").repeat(3);
@@ -69,8 +78,8 @@ fn giving(most: usize) -> Device {
     Device { most, ..WHOLE }
 }
 
-/// The calls of a run, by its number: a line, a line as bytes, a part, or a line that is skipped.
-const CALLS: [(u8, usize); 8] = [(0, 0), (5, 0), (4, 1), (6, 100), (0, 0), (6, 2), (4, 3), (6, 1)];
+/// The calls of a run, by its number: a line, a line as bytes, a part, a line that is skipped, or a text up to a code.
+const CALLS: [(u8, usize); 11] = [(0, 0), (5, 0), (4, 1), (6, 100), (0, 0), (6, 2), (4, 3), (6, 1), (7, 97), (7, 10), (7, 13)];
 
 /// Each call over all texts of CR, LF, `a` and 0x80 up to six bytes, by each kind of ending, in buffers of 0 to 9
 /// bytes. The source gives one byte a call, and fails at each call or at none.
@@ -83,7 +92,7 @@ fn calls_over_texts(rows: &mut Rows) {
             let mut steps = vec![Step { kind: 1 + endings, ..Step::default() }];
             for number in 0..5 {
                 let (kind, at) = CALLS[(5 * run + 3 * number) % CALLS.len()];
-                steps.push(Step { kind, at, ..Step::default() });
+                steps.push(Step { kind, at, code: at as u8, ..Step::default() });
             }
             let device = Device { fails: fails as u64, ..giving(1) };
             rows.ask(|asked| {
@@ -187,6 +196,7 @@ enum Call {
     Line,
     Bytes,
     Part(usize),
+    Until(u8),
     /// The endings from now on.
     By(u8),
 }
@@ -199,19 +209,21 @@ enum Got {
     /// A line of bytes, with the position of the first that is not ASCII, and its ending.
     Other(usize, &'static [u8], usize, &'static str),
     Text(usize, &'static str),
+    /// A text with the character after it.
+    Cut(usize, &'static str),
     Fails(&'static str, usize),
     FailsToRead,
     Ends,
     Nothing,
 }
 
-use Call::{By, Bytes, Line, Part};
-use Got::{Ends, Fails, FailsToRead, Nothing, Of, Other, Text};
+use Call::{By, Bytes, Line, Part, Until};
+use Got::{Cut, Ends, Fails, FailsToRead, Nothing, Of, Other, Text};
 
 /// A text, the sizes of the buffer, and the calls with what they return.
 type Session = (&'static [u8], &'static [usize], &'static [(Call, Got)]);
 
-static SESSIONS: [Session; 24] = [
+static SESSIONS: [Session; 26] = [
     // An LF that comes with the next read.
     (b"ab\r\nc\nd", &[64, 4], &[(By(CR_LF), Nothing), (Line, Of(0, "ab", "crlf")), (Line, Of(4, "c\nd", "none")), (Line, Ends)]),
     (
@@ -252,6 +264,21 @@ static SESSIONS: [Session; 24] = [
     (b"a\nbc\xffd", &[4], &[(Part(4), Text(0, "a\nbc")), (Part(2), Fails("ascii", 4))]),
     (b"abcdef", &[4], &[(Part(1), Text(0, "a")), (Part(5), Fails("long", 1))]),
     (b"ab", &[4], &[(Line, Of(0, "ab", "none")), (Part(1), Fails("incomplete", 0)), (Line, Ends)]),
+    // Texts up to a character.
+    (
+        b"a\0b\r\nc\n\0\0\r:d",
+        &[3],
+        &[
+            (Until(0), Cut(0, "a")),
+            (Line, Of(2, "b", "crlf")),
+            (Until(0), Cut(5, "c\n")),
+            (Until(0), Cut(8, "")),
+            (Until(b':'), Cut(9, "\r")),
+            (Until(b':'), Text(11, "d")),
+            (Until(0), Ends),
+        ],
+    ),
+    (b"ab\0\xff\0", &[3], &[(Until(0), Cut(0, "ab")), (Until(0), Fails("ascii", 3)), (Until(0), Fails("ascii", 3))]),
     // Lines of bytes.
     (
         b"a\xff\r\n\x80\nz",
@@ -320,6 +347,10 @@ fn put_got(call: Call, got: Got, position: &mut usize, want: &mut Answer) {
             want.put((start, part));
             *position = start + part.len();
         }
+        Cut(start, text) => {
+            want.put((start, text));
+            *position = start + text.len() + 1;
+        }
         Fails(name, place) => want.put((name, place)),
         FailsToRead => want.put("read"),
         Ends => want.put(NOTHING),
@@ -334,6 +365,7 @@ fn ask_session(rows: &mut Rows, (text, _, calls): Session, size: usize, device: 
         Line => Step::default(),
         Bytes => Step { kind: 5, ..Step::default() },
         Part(at) => Step { kind: 4, at, ..Step::default() },
+        Until(code) => Step { kind: 7, code, ..Step::default() },
         By(endings) => Step { kind: 1 + endings, ..Step::default() },
     });
     let steps: Vec<Step> = steps.collect();

@@ -16,7 +16,8 @@ use std::alloc::{AllocError, Allocator, Global};
 
 /// What a reader with a buffer of `size` bytes returns to each step, and its position after it; and the number of
 /// calls of its source. The kinds are 0 for the next line, 1 to 3 for the endings of `Endings` from now on, 4 for a
-/// part of `at` bytes, 5 for the next line as bytes, and 6 for a line of up to `at` bytes that is skipped.
+/// part of `at` bytes, 5 for the next line as bytes, 6 for a line of up to `at` bytes that is skipped, and 7 for the text up
+/// to the next `code`.
 pub fn ask_reader(
     alloc: Global,
     source: &[u8],
@@ -44,6 +45,9 @@ fn read(reader: &mut LineReader<Input<Given>>, step: Step, answer: &mut Answer) 
         3 => reader.lines_ended_by(Endings::CrLfStrict),
         4 => answer.put(reader.read_exact_part(step.at)),
         6 => answer.put(reader.skip_line(step.at as u64)),
+        7 => answer.put(reader.next_until(
+            AsciiChar::from_ascii(step.code).ok().unwrap_or_default(),
+        )),
         _ => answer.put(reader.next_bytes()),
     }
 }
