@@ -102,8 +102,8 @@ fresh_reader size endings device = state_at (fresh_cursor size endings) device
 abbrev pub ended_by : Endings → ReaderState → ReaderState
 ended_by endings reading = record reading { endings = endings }
 
--- the reader goes on: it has not returned `None`, a line without an ending, or an error; or, after
--- the error, a line was skipped up to its ending
+-- the reader goes on: it has not returned `None`, a line or text without an ending, or an error; or,
+-- after the error, a line was skipped up to its ending
 abbrev pub IsOpen : {S : Type 0} → Reading S → Type 0
 IsOpen reader = reader.state.stage ≡ Open
 

@@ -134,8 +134,8 @@ IsOtherIn (Bytes endings) size text i = ⊥
 IsOtherIn wanted size text i =
     (i < size) × FirstOther text 0 (length text) i × LacksUpTo wanted text i
 
--- what is wanted does not fit in `size` bytes: the line has more, of which those that fit may be in
--- it; or the part is longer
+-- what is wanted does not fit in `size` bytes: the line or text has more, of which those that fit
+-- may be in it; or the part is longer
 abbrev pub IsOver : Wanted → ℕ → List ℕ → Type 0
 IsOver (Part count) size text = size < count
 IsOver wanted size text =

@@ -41,8 +41,8 @@ pub trait LineStep {
 ///
 /// The lines are the first lines of the bytes that the source gives, and all of them if there is no error.
 ///
-/// Condition: the reader is open: it has not returned `None`, a line without an ending, or an error; or `skip_line`
-/// has read over the line of that error up to its ending. The state is as it is after no line.
+/// Condition: the reader is open: it has not returned `None`, a line or text without an ending, or an error; or
+/// `skip_line` has read over the line of that error up to its ending. The state is as it is after no line.
 ///
 ///     let source = Input::new(b"ab\n\xff".as_slice());
 ///     let mut reader = LineReader::new(alloc, source, 64, Endings::Any)?;

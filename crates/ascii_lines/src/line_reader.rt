@@ -289,8 +289,8 @@ impl<S: Source, A: Allocator> LineReader<S, A> {
     /// - `TooFar` if the part ends after the position `u64::MAX`. Nothing is read.
     /// - `Read` if a call of the source failed, or `u64::MAX` calls have failed before.
     ///
-    /// What stands after an error, and when the source is read, is as for `next_line`. After `next_line` has
-    /// returned `None`, or a line without an ending, the error is `Incomplete(0)`, and the reader is unchanged.
+    /// What stands after an error, and when the source is read, is as for `next_line`. After `None`, or a line
+    /// or text without an ending, the error is `Incomplete(0)`, and the reader is unchanged.
     ///
     ///     let source = Input::new(b"$4\na\nbc\nd".as_slice());
     ///     let mut reader = LineReader::new(alloc, source, 64, Endings::Any)?;
@@ -364,7 +364,7 @@ impl<S: Source, A: Allocator> LineReader<S, A> {
     /// - `Read` if a call of the source failed, or `u64::MAX` calls have failed before. The bytes that had been
     ///   read of the line were skipped, except a CR at their end.
     ///
-    /// After `None`, or a line without an ending, nothing is skipped. After `Read`, `TooFar` or `Incomplete` that
+    /// After `None`, or a line or text without an ending, nothing is skipped. After `Read`, `TooFar` or `Incomplete` that
     /// error is returned again. Both change nothing.
     ///
     ///     let source = Input::new(b"ok\n\xffabcdef\nok2\n".as_slice());

@@ -41,8 +41,8 @@ pub struct CollectedLines {
 /// failed, they are exactly the lines that end in the bytes received before it. After `AllocError` the lines
 /// that were read are lost, the last of them too, and the reader goes on after it.
 ///
-/// Condition: the reader is open: it has not returned `None`, a line without an ending, or an error; or `skip_line`
-/// has read over the line of that error up to its ending.
+/// Condition: the reader is open: it has not returned `None`, a line or text without an ending, or an error; or
+/// `skip_line` has read over the line of that error up to its ending.
 ///
 ///     let source = Input::new(b"ab\n\xff".as_slice());
 ///     let mut reader = LineReader::new(alloc, source, 64, Endings::Any)?;
@@ -105,8 +105,8 @@ pub struct Block {
 /// the reader, or if there are `most`. After `AllocError` the lines that were read are lost, the last of them too, and
 /// the reader goes on after it.
 ///
-/// Condition: the reader is open: it has not returned `None`, a line without an ending, or an error; or `skip_line`
-/// has read over the line of that error up to its ending.
+/// Condition: the reader is open: it has not returned `None`, a line or text without an ending, or an error; or
+/// `skip_line` has read over the line of that error up to its ending.
 ///
 ///     let source = Input::new(b"a: 1\nb: 2\n\nbody".as_slice());
 ///     let mut reader = LineReader::new(alloc, source, 64, Endings::Any)?;
