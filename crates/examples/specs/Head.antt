@@ -1,8 +1,18 @@
 -- The head of an HTTP/1.1 request.
-use Rattle.std.specs.Prelude.{◌≡◌, ◌≢◌, List, [], ◌∷◌, ◌++◌, ◌-◌, ◌^◌, All, codes, ℕ}
+use Rattle.std.specs.Prelude.{◌≡◌, ◌≢◌, List, [], ◌∷◌, ◌++◌, ◌-◌, ◌^◌, All, IsSome, IsSomeAnd}
+use Rattle.std.specs.Prelude.{ℕ, ⊤, codes, length, slice_get, take}
+use Rattle.std.specs.List.{AllPairs, AllZip}
 use Rattle.ascii.specs.Class.{IsGraphic, IsTokenCode}
 use Rattle.ascii_formats.specs.Numbers.{WritesNumber}
 use Rattle.ascii.specs.View.{text_of}
+use Rattle.ascii.specs.declared.ascii_str.AsciiStr.{AsciiStr}
+use Rattle.ascii_keys.specs.Maps.{Entries, folded_value_at}
+use Rattle.ascii_lines.specs.declared.owned_lines.OwnedLine.{OwnedLine}
+use Rattle.cookbook.specs.HeaderMap.{HasLastValues, values_in}
+use Rattle.cookbook.specs.Headers.{IsHeader, IsHeaderError, IsNamed}
+use Rattle.cookbook.specs.declared.headers.Header.{Header}
+use Rattle.examples.specs.declared.head.HeadersError.{HeadersError}
+use Rattle.examples.specs.declared.head.HeadersError.TheVariants.{Memory, NotHeader, Twice}
 use Rattle.examples.specs.declared.head.RequestLine.{RequestLine}
 
 -- `line` is a method, a target and a version, with single spaces between them
@@ -15,3 +25,32 @@ pub record IsRequestLine (line : List ℕ) (request : RequestLine) : Type 0 wher
   pub method_token : All IsTokenCode (text_of request.method)
   pub target_some : text_of request.target ≢ []
   pub target_graphic : All IsGraphic (text_of request.target)
+
+-- `header` is the header of `line`
+abbrev pub IsHeaderOf : OwnedLine → Header → Type 0
+IsHeaderOf line header = IsHeader line.text.text (text_of header.name) (text_of header.value)
+
+-- each of `lines` is a header, no two have one name, ignoring ASCII case, and `map` has the value
+-- of each at its name, and no other value
+pub record AreHeaders (lines : List OwnedLine) (map : Entries AsciiStr) : Type 0 where
+  pub headers : List Header
+  pub each : AllZip IsHeaderOf lines headers
+  pub apart : AllPairs (λ first second. ¬ (IsNamed (text_of second.name) first)) headers
+  pub values : HasLastValues headers (values_in map)
+  pub size : length map ≡ length lines
+
+-- the lines before the one at `index` are headers with different names, those of a map, and of this
+-- map and that line `Here` is true
+abbrev pub StopsAt : List OwnedLine → ℕ → (Entries AsciiStr → OwnedLine → Type 0) → Type 0
+StopsAt lines index Here = (map : Entries AsciiStr) × AreHeaders (take index lines) map
+    × IsSomeAnd (slice_get lines index) (Here map)
+
+-- why `lines` are not headers with different names. `NotHeader`: the line at `index` is the first
+-- that is not a header, and `error` says why. `Twice`: it is the first that has the name of one
+-- before it. `Memory` says nothing of the lines
+abbrev pub IsHeadersError : List OwnedLine → HeadersError → Type 0
+IsHeadersError lines (NotHeader index error) =
+    StopsAt lines index (λ map line. IsHeaderError line.text.text error)
+IsHeadersError lines (Twice index) = StopsAt lines index (λ map line. (header : Header)
+    × IsHeaderOf line header × IsSome (folded_value_at map (text_of header.name)))
+IsHeadersError lines Memory = ⊤

@@ -1,16 +1,17 @@
 //! Prints the request line of an HTTP/1.1 request and its header Host, or why it has none.
 #![tactic(auto)]
 
-ghost use Rattle.std.specs.Prelude.{◌≡◌, IfOk, IfSome, length};
+ghost use Rattle.std.specs.Prelude.{IfSome, MatchResult};
 ghost use Rattle.ascii.specs.View.{text_of};
-ghost use Rattle.examples.specs.Head.{IsRequestLine};
+ghost use Rattle.examples.specs.Head.{AreHeaders, IsHeadersError, IsRequestLine};
 
-use ascii::classes::{Blank, Graphic, Token};
+use ascii::classes::{Graphic, Token};
 use ascii_formats::AsciiStrExt;
 use ascii_keys::FoldedMap;
 use ascii_lines::{
     AsciiChar, AsciiStr, Block, BlockEnd, Endings, Input, LineReader, OwnedLine, read_block,
 };
+use cookbook::headers::{HeaderError, read_header};
 use std::alloc::Global;
 use std::io;
 
@@ -22,11 +23,14 @@ pub struct RequestLine<'a> {
     pub minor: u8,
 }
 
-/// Why lines are not headers. A line is named by its index, counted from 0.
+/// Why lines are not headers with different names. A line is named by its index, counted from 0.
 #[derive(Clone, Copy)]
-pub enum HeaderError {
-    NotHeader(usize),
+pub enum HeadersError {
+    /// The first line that is not a header, and why.
+    NotHeader(usize, HeaderError),
+    /// The first header that has the name of one before it, ignoring ASCII case.
     Twice(usize),
+    /// An allocation failed.
     Memory,
 }
 
@@ -51,25 +55,24 @@ pub fn read_request_line<'a>(line: AsciiStr<'a>) -> Option<RequestLine<'a>>
     })
 }
 
-/// Returns the values of the headers by their names, ignoring ASCII case. There is one for each line.
+/// Returns the value of the header of each line by its name, ignoring ASCII case, or an error with the first line that
+/// is not a header or has the name of one before it.
 pub fn read_headers<'a>(
     alloc: Global,
     lines: &'a [OwnedLine],
-) -> Result<FoldedMap<AsciiStr<'a>>, HeaderError>
-    ensures { IfOk result (λ headers. length headers ≡ length lines.now) }
+) -> Result<FoldedMap<AsciiStr<'a>>, HeadersError>
+    ensures { MatchResult result (AreHeaders lines.now) (IsHeadersError lines.now) }
 {
     let mut headers = FoldedMap::new(alloc);
     for (index, line) in lines.iter().enumerate() {
-        let Some((name, value)) = line.text.as_ascii_str().split_once(AsciiChar::Colon) else {
-            return Err(HeaderError::NotHeader(index));
+        let header = match read_header(line.text.as_ascii_str()) {
+            Ok(header) => header,
+            Err(error) => return Err(HeadersError::NotHeader(index, error)),
         };
-        if name.is_empty() || !name.is_all::<Token>() {
-            return Err(HeaderError::NotHeader(index));
-        }
-        match headers.insert(name, value.trim_matches::<Blank>()) {
+        match headers.insert(header.name, header.value) {
             Ok(None) => {}
-            Ok(Some(_)) => return Err(HeaderError::Twice(index)),
-            Err(_) => return Err(HeaderError::Memory),
+            Ok(Some(_)) => return Err(HeadersError::Twice(index)),
+            Err(_) => return Err(HeadersError::Memory),
         }
     }
     Ok(headers)
@@ -82,9 +85,9 @@ fn show_host(rt: &HostRuntime, lines: &[OwnedLine]) -> io::Result<()> {
             Some(host) => println!(rt; "host {host}"),
             None => println!(rt; "no host"),
         },
-        Err(HeaderError::NotHeader(index)) => println!(rt; "header {index} is not one"),
-        Err(HeaderError::Twice(index)) => println!(rt; "header {index} comes twice"),
-        Err(HeaderError::Memory) => println!(rt; "no memory"),
+        Err(HeadersError::NotHeader(index, error)) => println!(rt; "header {index}: {error}"),
+        Err(HeadersError::Twice(index)) => println!(rt; "header {index} comes twice"),
+        Err(HeadersError::Memory) => println!(rt; "no memory"),
     }
 }
 

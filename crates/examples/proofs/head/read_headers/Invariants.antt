@@ -1,6 +1,7 @@
-use Rattle.std.proofs.Common.{◌≡◌, length}
+use Rattle.std.proofs.Common.{take}
+use Rattle.examples.specs.Head.{AreHeaders}
 use Rattle.examples.proofs.head.read_headers.Given as goal
 
--- there is one header for each line so far
+-- the lines so far are headers, those of the map
 abbrev pub invariant-loop-index : goal.invariant-loop-index
-invariant-loop-index l = length l.headers ≡ l.index
+invariant-loop-index l = AreHeaders (take l.index l.lines) l.headers
