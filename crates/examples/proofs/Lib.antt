@@ -1,3 +1,4 @@
+pub mod EntriesLemmas
 pub mod HeadLemmas
 pub mod PagerLemmas
 pub mod TallyLemmas

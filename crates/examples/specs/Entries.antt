@@ -1,11 +1,15 @@
--- The parts of a settings file.
-use Rattle.std.specs.Prelude.{◌≡◌, ℕ, List, ⊤, codes, IfErr}
-use Rattle.std.specs.List.{Contains}
+-- The lines of a settings file, and the entries that they say.
+use Rattle.std.specs.Prelude.{◌≡◌, ◌≢◌, ◌⊎◌, ℕ, List, [], ◌∷◌, ◌++◌, ⊤, Err, MatchResult, Ok, codes}
+use Rattle.std.specs.Prelude.{◌+◌, length}
+use Rattle.std.specs.List.{All, AllZip, Contains, fold}
+use Rattle.std.specs.declared.alloc.Global.{Global}
 use Rattle.std.specs.declared.result.Result.{Result}
+use Rattle.std.specs.declared.vec.Vec.{Vec}
 use Rattle.ascii.specs.Class.{IsWhitespace}
-use Rattle.ascii.specs.Search.{IsCutAt, StartsWith}
+use Rattle.ascii.specs.Search.{IsCutAt, IsPrefix, StartsWith}
+use Rattle.ascii.specs.View.{text_of}
 use Rattle.ascii.specs.declared.ascii_str.AsciiStr.{AsciiStr}
-use Rattle.ascii_formats.specs.Parts.{IsTrimmed, part_text}
+use Rattle.ascii_formats.specs.Parts.{AreSidesOf, IsTrimmed, part_text}
 use Rattle.ascii_formats.specs.declared.parts.Part.{Part}
 use Rattle.examples.specs.declared.ini.IniError.{IniError}
 use Rattle.examples.specs.declared.ini.IniError.TheVariants.{At, Memory}
@@ -31,16 +35,114 @@ abbrev pub IsErrorIn : AsciiStr → IniError → Type 0
 IsErrorIn text (At part what) = part.whole ≡ text
 IsErrorIn text Memory = ⊤
 
+-- ---- one line
+
+-- `sides` are the parts of `part` before and after its first code `on`
+pub record AreSidesAt (on : ℕ) (part : Part) (sides : Part × Part) : Type 0 where
+  pub cut : IsCutAt on (part_text part) (part_text sides.0) (part_text sides.1)
+  pub place : AreSidesOf 1 part sides
+
+-- `key` and `value` are the parts of `body` before and after its first `=`, without whitespace at
+-- their ends
+pub record HasSides (body key value : Part) : Type 0 where
+  pub sides : Part × Part
+  pub cut : AreSidesAt 61 body sides
+  pub trimmed_key : IsTrimmed IsWhitespace sides.0 key
+  pub trimmed_value : IsTrimmed IsWhitespace sides.1 value
+
+-- `body` is neither empty nor a comment nor the start of a section
+pub record IsOther (body : List ℕ) : Type 0 where
+  pub some : body ≢ []
+  pub comment : ¬ (StartsWith (codes ";") body)
+  pub section : ¬ (StartsWith (codes "[") body)
+
+-- what `body` says, a line without whitespace at its ends. `Blank`: it is empty or begins with `;`.
+-- `Section`: it is `[`, the name and `]`, and the name contains no `]`. `Setting`: the key is
+-- before the first `=`, and not empty, and the value after it
+abbrev pub Says : Part → Parsed → Type 0
+Says body Blank = (part_text body ≡ []) ⊎ StartsWith (codes ";") (part_text body)
+Says body (Section name) = (name.whole ≡ body.whole) × (name.start ≡ body.start + 1)
+    × ((rest : List ℕ) × IsPrefix (codes "[") (part_text body) rest
+    × IsCutAt 93 rest (part_text name) [])
+Says body (Setting key value) =
+    IsOther (part_text body) × HasSides body key value × (part_text key ≢ [])
+
 -- why `body`, a line without whitespace at its ends, was rejected; it is the part at fault.
--- `OpenSection`: it begins with `[`. `NoEquals`: it contains no `=`. `NoKey`: it does.
+-- `OpenSection`: it begins with `[`, and its first `]` is not its last code, or it has none.
+-- `NoEquals`: it contains no `=`. `NoKey`: it does, and before that is nothing but whitespace
 abbrev pub IsFaultOf : Part → IniError → Type 0
-IsFaultOf body (At part OpenSection) = (part ≡ body) × StartsWith (codes "[") (part_text body)
-IsFaultOf body (At part NoEquals) = (part ≡ body) × ¬ (Contains (part_text body) 61)
-IsFaultOf body (At part NoKey) = (part ≡ body)
-    × ((before : List ℕ) × (after : List ℕ) × IsCutAt 61 (part_text body) before after)
+IsFaultOf body (At part OpenSection) = (part ≡ body)
+    × ((rest : List ℕ) × IsPrefix (codes "[") (part_text body) rest
+    × (Contains rest 93 → (name : List ℕ) × (after : List ℕ) × IsCutAt 93 rest name after
+    × (after ≢ [])))
+IsFaultOf body (At part NoEquals) =
+    (part ≡ body) × IsOther (part_text body) × ¬ (Contains (part_text body) 61)
+IsFaultOf body (At part NoKey) = (part ≡ body) × IsOther (part_text body)
+    × ((key : Part) × (value : Part) × HasSides body key value × (part_text key ≡ []))
 IsFaultOf body Memory = ⊥
 
--- an error of `line` is that of the line without whitespace at its ends
-abbrev pub SaysFault : Part → Result Parsed IniError → Type 0
-SaysFault line result =
-    (body : Part) × IsTrimmed IsWhitespace line body × IfErr result (IsFaultOf body)
+-- `Ok`: what `line` says. `Err`: why it was rejected
+abbrev pub ReadsLine : Part → Result Parsed IniError → Type 0
+ReadsLine line result = (body : Part) × IsTrimmed IsWhitespace line body
+    × MatchResult result (Says body) (IsFaultOf body)
+
+-- ---- the lines of a text
+
+-- `part` is the first `n` codes of `text`
+pub record IsFront (text : AsciiStr) (n : ℕ) (part : Part) : Type 0 where
+  pub whole : part.whole ≡ text
+  pub start : part.start ≡ 0
+  pub end : part.end ≡ n
+
+-- `lines` are the first lines of `part`, each with a line feed after it, and `rest` follows
+abbrev pub AreFirstLines : Part → List Part → Part → Type 0
+AreFirstLines part [] rest = part ≡ rest
+AreFirstLines part (line ∷ lines) rest =
+    (after : Part) × AreSidesAt 10 part (line, after) × AreFirstLines after lines rest
+
+-- `line` is the first line of `rest`: it ends before the first line feed, or where `rest` ends
+abbrev pub IsFirstLine : Part → Part → Type 0
+IsFirstLine rest line = ((after : Part) × AreSidesAt 10 rest (line, after))
+    ⊎ ((line ≡ rest) × ¬ (Contains (part_text rest) 10))
+
+-- the section and the entries after a line: a section is that of the entries after it, and a
+-- setting is one entry more
+abbrev pub after_line : Part × List Entry → Parsed → Part × List Entry
+after_line before Blank = before
+after_line before (Section name) = (name, before.1)
+after_line before (Setting key value) =
+    (before.0, before.1 ++ record { section = before.0; key = key; value = value } ∷ [])
+
+-- `entries` are those of the lines of `all`: each is in the section that the last line before it
+-- names, or in `none` if there is no such line
+pub record AreEntries (all none : Part) (entries : List Entry) : Type 0 where
+  pub lines : List Part
+  pub last : Part
+  pub cut : AreFirstLines all lines last
+  pub no_more : ¬ (Contains (part_text last) 10)
+  pub parsed : List Parsed
+  pub each : AllZip (λ line said. ReadsLine line (Ok said)) (lines ++ last ∷ []) parsed
+  pub are : (fold after_line (none, []) parsed).1 ≡ entries
+
+-- `error` is that of a line of `all`, and no line before it has one
+pub record IsFirstFault (all : Part) (error : IniError) : Type 0 where
+  pub before : List Part
+  pub rest : Part
+  pub line : Part
+  pub cut : AreFirstLines all before rest
+  pub first : IsFirstLine rest line
+  pub right : All (λ line. (said : Parsed) × ReadsLine line (Ok said)) before
+  pub fault : ReadsLine line (Err error)
+
+-- `Ok`: the entries of `text`. `Err`: the error of its first line at fault, or `Memory`
+abbrev pub ReadsEntries : AsciiStr → Result (Vec Entry Global) IniError → Type 0
+ReadsEntries text result = (all : Part) × IsFront text (length (text_of text)) all
+    × ((none : Part) × IsFront text 0 none
+    × MatchResult result (λ entries. AreEntries all none entries.items)
+    (λ error. (error ≡ Memory) ⊎ IsFirstFault all error))
+
+-- ---- cited by private functions only
+
+-- `error` is that of `line`, or `Memory`
+abbrev pub IsLineError : Part → IniError → Type 0
+IsLineError line error = (error ≡ Memory) ⊎ ReadsLine line (Err error)

@@ -2,8 +2,9 @@
 //! comments after `;`. A text that is not a settings file is reported with the place of its first fault.
 #![tactic(auto)]
 
-ghost use Rattle.std.specs.Prelude.{◌≡◌, All, IfErr, IfOk, MatchResult};
-ghost use Rattle.examples.specs.Entries.{ArePartsOf, IsEntryOf, IsErrorIn, IsFaultOf, SaysFault};
+ghost use Rattle.std.specs.Prelude.{◌≡◌, All, IfOk, MatchResult, Ok};
+ghost use Rattle.examples.specs.Entries.{ArePartsOf, IsEntryOf, IsErrorIn, IsFaultOf, IsLineError};
+ghost use Rattle.examples.specs.Entries.{ReadsEntries, ReadsLine, Says, after_line};
 
 use ascii::{AsciiChar, AsciiStr, text};
 use ascii_formats::AsciiStrExt;
@@ -46,9 +47,12 @@ pub enum IniError<'a> {
     Memory,
 }
 
-/// Returns the entries of a text, in order, or the part of the text that is at fault.
+/// Returns the entries of the lines that say a setting, in order, or an error with the first line at fault, without the
+/// whitespace at its ends. An entry is in the section that the last line before it names; before the first such line,
+/// in an empty part at the start of the text.
 pub fn read_entries<'a>(alloc: Global, text: AsciiStr<'a>) -> Result<Vec<Entry<'a>>, IniError<'a>>
-    ensures { MatchResult result (λ entries. All (IsEntryOf text.entry) entries.items)
+    ensures entries { ReadsEntries text.entry result }
+    ensures parts { MatchResult result (λ entries. All (IsEntryOf text.entry) entries.items)
         (IsErrorIn text.entry) }
 {
     let mut entries = Vec::new(alloc);
@@ -70,9 +74,13 @@ fn add_line<'a>(
 ) -> Result<Part<'a>, IniError<'a>>
     requires whole { section.whole ≡ line.whole }
     requires entries { All (IsEntryOf line.whole) entries.old.items }
-    ensures { let whole = line.entry.whole in MatchResult result
+    ensures parts { let whole = line.entry.whole in MatchResult result
         (λ next. (next.whole ≡ whole) × All (IsEntryOf whole) entries.new.items)
         (IsErrorIn whole) }
+    ensures line { MatchResult result
+        (λ next. (parsed : Parsed) × ReadsLine line.entry (Ok parsed)
+        × ((next, entries.new.items) ≡ after_line (section.entry, entries.old.items) parsed))
+        (IsLineError line.entry) }
 {
     match read_line(line)? {
         Parsed::Blank => Ok(section),
@@ -95,7 +103,7 @@ fn add_line<'a>(
 fn read_line<'a>(line: Part<'a>) -> Result<Parsed<'a>, IniError<'a>>
     ensures parts { MatchResult result (ArePartsOf line.entry.whole)
         (IsErrorIn line.entry.whole) }
-    ensures fault { SaysFault line.entry result }
+    ensures line { ReadsLine line.entry result }
 {
     read_body(line.trim())
 }
@@ -103,7 +111,7 @@ fn read_line<'a>(line: Part<'a>) -> Result<Parsed<'a>, IniError<'a>>
 /// Returns what a line without whitespace at its ends says.
 fn read_body<'a>(body: Part<'a>) -> Result<Parsed<'a>, IniError<'a>>
     ensures parts { IfOk result (ArePartsOf body.entry.whole) }
-    ensures fault { IfErr result (IsFaultOf body.entry) }
+    ensures body { MatchResult result (Says body.entry) (IsFaultOf body.entry) }
 {
     if body.is_empty() || body.text().starts_with_char(AsciiChar::Semicolon) {
         return Ok(Parsed::Blank);
@@ -117,11 +125,11 @@ fn read_body<'a>(body: Part<'a>) -> Result<Parsed<'a>, IniError<'a>>
     let Some((key, value)) = body.split_once(AsciiChar::Equal) else {
         return Err(IniError::At(body, What::NoEquals));
     };
-    let key = key.trim();
+    let (key, value) = (key.trim(), value.trim());
     if key.is_empty() {
         return Err(IniError::At(body, What::NoKey));
     }
-    Ok(Parsed::Setting(key, value.trim()))
+    Ok(Parsed::Setting(key, value))
 }
 
 pub fn main(rt: HostRuntime) -> io::Result<()> {
