@@ -238,6 +238,7 @@ calls! {
     fn ask_greeted(size: usize, greeting: &[u8], source: &[u8], reads: &Device, writes: &Device);
     fn ask_header(source: &[u8]);
     fn ask_headers(name: &[u8], block: &[u8]);
+    fn ask_media_type(name: &[u8], source: &[u8]);
     fn ask_hosts(first: &[u8], second: &[u8]);
     fn ask_setting(source: &[u8]);
     fn ask_settings(source: &[u8]);

@@ -25,6 +25,23 @@ pub static ROWS: &[Row] = &[
             rows.expect(("line", number, start, fault), |asked| calls::ask_headers(asked, b"Host", block.as_bytes()));
         }
     }),
+    ("media_types_have_a_type_a_subtype_and_parameters", |rows| {
+        rows.each(MEDIA_TYPES, |(text, answer), asked| {
+            calls::ask_media_type(asked, b"CHARSET", text.as_bytes());
+            match answer {
+                Ok((names, parameters)) => {
+                    asked.want.put(names);
+                    asked.want.all(parameters);
+                }
+                Err(position) => asked.want.put(("missing", position)),
+            }
+        });
+        rows.ask(|asked| {
+            calls::ask_media_type(asked, b"A", format!("a/b{}", "; a=b".repeat(1_000)).as_bytes());
+            asked.want.put(("a", "b", Some("b")));
+            asked.want.times(1_000, ("a", "b"));
+        });
+    }),
     ("hosts_are_kept_in_lower_case", |rows| rows.each(HOSTS, |(name, host), asked| ask_host(name, Ok(host), asked))),
     ("hosts_are_rejected_at_their_first_fault", |rows| {
         for (fault, names) in REJECTED_HOSTS {
@@ -109,6 +126,19 @@ static HEADERS: [(&str, Result<(&str, &str), Fault>); 15] = [
     ("H(st: a", Err(Fault("token", Some(1)))),
     ("a/b@c: d", Err(Fault("token", Some(1)))),
     ("a\x7f: d", Err(Fault("token", Some(1)))),
+];
+
+/// A text, and its type, its subtype, its charset and its parameters, or the position at which something is missing.
+type Media = (&'static str, Result<((&'static str, &'static str, Option<&'static str>), &'static [(&'static str, &'static str)]), usize>);
+static MEDIA_TYPES: [Media; 8] = [
+    ("text/html", Ok((("text", "html", None), &[]))),
+    ("a/b ;\t;Charset=\"x; \\\"y\" ; charset=z;", Ok((("a", "b", Some("x; \\\"y")), &[("Charset", "x; \\\"y"), ("charset", "z")]))),
+    ("text", Err(4)),
+    ("text/", Err(5)),
+    ("text/html charset", Err(10)),
+    ("a/b;c", Err(5)),
+    ("a/b;c= d", Err(6)),
+    ("a/b; c=\"d", Err(7)),
 ];
 
 /// The indexes of the first and of the last header with a name, and the name in some cases.

@@ -7,6 +7,7 @@ pub mod Hosts
 pub mod Identifiers
 pub mod LastLines
 pub mod Lossy
+pub mod MediaType
 pub mod Rows
 pub mod Screen
 pub mod Settings

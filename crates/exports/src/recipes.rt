@@ -4,6 +4,7 @@ ghost use Rattle.std.specs.Prelude.{◌≤◌};
 
 use crate::answer::{Answer, Put};
 use ascii::{AsciiStr, AsciiString};
+use ascii_formats::parts::ParseError;
 use cookbook::copy_lossy::copy_lossy;
 use cookbook::csv::{FieldError, push_field, take_field};
 use cookbook::header_map::HeaderMap;
@@ -13,6 +14,7 @@ use cookbook::headers::{
 use cookbook::hosts::{HostName, HostNameError, host_order, same_host};
 use cookbook::identifiers::split_identifier;
 use cookbook::last_lines::{is_open, last_body_end, last_lines, without_last_lines};
+use cookbook::media_type::MediaType;
 use cookbook::screen::{ScreenText, wrap_for_screen};
 use cookbook::settings::{Setting, SettingError, SettingsError, read_setting, read_settings};
 use cookbook::table::{RowError, read_row};
@@ -66,6 +68,21 @@ impl Put for HeaderBlockError {
             } => answer.put((("line", number), start, error)),
             HeaderBlockError::Memory => answer.put(AllocError),
         }
+    }
+}
+
+/// A text as a media type: the value of its first parameter with a name, and all its parameters.
+pub fn ask_media_type(alloc: Global, name: AsciiStr, source: AsciiStr, answer: &mut Answer) {
+    match MediaType::parse(alloc, source) {
+        Ok(media) => {
+            let named = media.parameter(name).map(|parameter| parameter.value);
+            answer.put((media.kind, media.subtype, named));
+            for parameter in &media.parameters {
+                answer.put((parameter.name, parameter.value));
+            }
+        }
+        Err(ParseError::At(part, _)) => answer.put(("missing", part.start)),
+        Err(ParseError::Memory) => answer.put(AllocError),
     }
 }
 
