@@ -240,7 +240,7 @@ FILTER = [
 OF_EXAMPLES = b"usage: examples events|head|host|ini|keys|lines|nmea|pager|paths|register|syslog|tally|tokens|uniq\n"
 LINES_OF_A_REGISTER = b"GET\nhello\r\nGET\nno\377ascii\nGET\nQUIT\nGET\n"
 REPLIES_OF_A_REGISTER = b"\nOK\nhello\nBAD\nhello\nBYE\n"
-HEAD = b"GET /a?b HTTP/1.1\r\nHost: a.example\r\nACCEPT:  */* \r\n\r\nbody"
+HEAD = b"GET /a?b HTTP/1.1\r\nHost: a.example\r\nContent-Type: text/plain; CHARSET=utf-8\r\n%s\r\nbody"
 SETTINGS = b"; a comment\n[net]\nport = 80\n host=  a.example \n[disk]\npath =\n"
 SENTENCE = b"$GPGGA,123519,4807.038,N,01131.000,E,1,08,0.9,545.4,M,46.9,M,,*"
 SENTENCES = [SENTENCE + b"47", SENTENCE.replace(b"545.4", b"-545.4") + b"6A", SENTENCE + b"46",
@@ -285,7 +285,8 @@ TOKENS = b"""1:1: Word let
 """
 STORED = [(TOP / "crates/examples" / name).read_bytes() for name in ("stdin", "stdout")]
 EXAMPLES = [
-    Call("head", ["head"], HEAD, 0, b"GET /a?b 1.1\nhost a.example\n"),
+    Call("head", ["head"], HEAD % b"", 0, b"GET /a?b 1.1\nhost a.example\ncharset utf-8\n"),
+    Call("head with a header twice", ["head"], HEAD % b"HOST:b\r\n", 0, b"GET /a?b 1.1\nheader 2 comes twice\n"),
     Call("head of no request", ["head"], b"GET  / HTTP/1.1\r\n\r\n", 0, b"not a request line: GET  / HTTP/1.1\n"),
     Call("host", ["host"], b"Accept: */*\nHOST:  a.example\nx\303\244: 1\n", 0, b"a.example\nthe byte at index 1 is not ASCII\n"),
     Call("ini", ["ini"], SETTINGS, 0, b"3:8: [net] port = 80\n4:9: [net] host = a.example\n6:7: [disk] path = \n"),

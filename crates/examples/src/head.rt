@@ -1,4 +1,4 @@
-//! Prints the request line of an HTTP/1.1 request and its header Host, or why it has none.
+//! Prints the request line of an HTTP/1.1 request, its header Host and the charset of its content, or why it has none.
 #![tactic(auto)]
 
 ghost use Rattle.std.specs.Prelude.{IfSome, MatchResult};
@@ -7,11 +7,13 @@ ghost use Rattle.examples.specs.Head.{AreHeaders, IsHeadersError, IsRequestLine}
 
 use ascii::classes::{Graphic, Token};
 use ascii_formats::AsciiStrExt;
+use ascii_formats::parts::ParseError;
 use ascii_keys::FoldedMap;
 use ascii_lines::{
     AsciiChar, AsciiStr, Block, BlockEnd, Endings, Input, LineReader, OwnedLine, read_block,
 };
 use cookbook::headers::{HeaderError, read_header};
+use cookbook::media_type::MediaType;
 use std::alloc::Global;
 use std::io;
 
@@ -78,30 +80,49 @@ pub fn read_headers<'a>(
     Ok(headers)
 }
 
-/// Prints the header Host, or why there is none.
-fn show_host(rt: &HostRuntime, lines: &[OwnedLine]) -> io::Result<()> {
-    match read_headers(rt.alloc(), lines) {
-        Ok(found) => match found.get(AsciiStr::literal("host")) {
-            Some(host) => println!(rt; "host {host}"),
-            None => println!(rt; "no host"),
-        },
-        Err(HeadersError::NotHeader(index, error)) => println!(rt; "header {index}: {error}"),
-        Err(HeadersError::Twice(index)) => println!(rt; "header {index} comes twice"),
-        Err(HeadersError::Memory) => println!(rt; "no memory"),
+/// Prints the header Host and the charset of the content, or why there are none.
+fn show_headers(rt: &HostRuntime, lines: &[OwnedLine]) -> io::Result<()> {
+    let headers = match read_headers(rt.alloc(), lines) {
+        Ok(found) => found,
+        Err(HeadersError::NotHeader(index, error)) => {
+            return println!(rt; "header {index}: {error}");
+        }
+        Err(HeadersError::Twice(index)) => return println!(rt; "header {index} comes twice"),
+        Err(HeadersError::Memory) => return println!(rt; "no memory"),
+    };
+    match headers.get(AsciiStr::literal("host")) {
+        Some(host) => println!(rt; "host {host}")?,
+        None => println!(rt; "no host")?,
+    }
+    match headers.get(AsciiStr::literal("content-type")) {
+        Some(value) => show_charset(rt, *value),
+        None => Ok(()),
     }
 }
 
-/// Prints the header Host of lines with this end, or that the end is not that of a head.
-fn show_headers(rt: &HostRuntime, lines: &[OwnedLine], end: BlockEnd) -> io::Result<()> {
+/// Prints the charset of a media type, or why there is none.
+fn show_charset(rt: &HostRuntime, text: AsciiStr<'_>) -> io::Result<()> {
+    match MediaType::parse(rt.alloc(), text) {
+        Ok(media) => match media.parameter(AsciiStr::literal("charset")) {
+            Some(charset) => println!(rt; "charset {}", charset.value),
+            None => println!(rt; "no charset"),
+        },
+        Err(ParseError::At(part, what)) => println!(rt; "content type, {}", part.fault(what)),
+        Err(ParseError::Memory) => println!(rt; "no memory"),
+    }
+}
+
+/// Prints the headers of lines with this end, or that the end is not that of a head.
+fn show_lines(rt: &HostRuntime, lines: &[OwnedLine], end: BlockEnd) -> io::Result<()> {
     match end {
-        BlockEnd::EmptyLine => show_host(rt, lines),
+        BlockEnd::EmptyLine => show_headers(rt, lines),
         BlockEnd::EndOfInput => println!(rt; "the input ends in the head"),
         BlockEnd::Full => println!(rt; "more than 100 lines"),
         BlockEnd::Reader(error) => println!(rt; "{error}"),
     }
 }
 
-/// Prints the request line of a block, and its header Host.
+/// Prints the request line of a block, and its headers.
 fn show(rt: &HostRuntime, block: &Block) -> io::Result<()> {
     let Some((first, others)) = block.lines.split_first() else {
         return println!(rt; "no request line");
@@ -110,7 +131,7 @@ fn show(rt: &HostRuntime, block: &Block) -> io::Result<()> {
         return println!(rt; "not a request line: {}", first.text);
     };
     println!(rt; "{} {} 1.{}", request.method, request.target, request.minor)?;
-    show_headers(rt, others, block.end)
+    show_lines(rt, others, block.end)
 }
 
 pub fn main(rt: HostRuntime) -> io::Result<()> {
