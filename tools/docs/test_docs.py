@@ -41,7 +41,7 @@ class Lengths(unittest.TestCase):
 
 class Recipes(unittest.TestCase):
     def test_each_row_is_a_module_with_a_call(self):
-        self.assertEqual(len(recipes.rows()), 11)
+        self.assertEqual(len(recipes.rows()), 12)
         for row in recipes.rows():
             self.assertTrue([line for line in recipes.recipe(*row) if line.startswith("### ")], row)
 
