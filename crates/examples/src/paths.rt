@@ -1,13 +1,12 @@
 //! Prints the file names of standard input that are not portable, each quoted and in a line of its
-//! own. A name ends in NUL, as `find -print0` prints it, and may have any other character. A name that
-//! has a byte above 127, or does not fit in 4,096 bytes with its NUL, is reported with its position,
-//! and no name after it is read.
+//! own. Each ends in NUL, as `find -print0` prints it. One that has a byte above 127, or does not fit
+//! in 4,096 bytes with its NUL, is reported with its position, and no name after it is read.
 #![tactic(auto)]
 
 ghost use Rattle.std.specs.Prelude.{◌↔◌, IsTrue};
 ghost use Rattle.std.proofs.Common.{rules};
 ghost use Rattle.ascii.specs.View.{text_of};
-ghost use Rattle.examples.specs.Paths.{IsPortable};
+ghost use Rattle.examples.specs.Paths.{IsPathCode, IsPortable};
 
 use ascii::classes::{ByRanges, Ranges};
 use ascii_lines::{AsciiChar, AsciiStr, Endings, Input, LineReader};
@@ -18,7 +17,6 @@ pub struct PathRanges;
 const PATH: [(u8, u8); 4] = [(b'-', b'9'), (b'A', b'Z'), (b'_', b'_'), (b'a', b'z')];
 
 impl Ranges for PathRanges {
-    ghost use Rattle.examples.specs.Paths.{IsPathCode};
     ghost use Rattle.examples.specs.declared.paths.TheConstants.{PATH};
 
     ghost set = { IsPathCode };
