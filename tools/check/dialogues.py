@@ -345,7 +345,7 @@ class RejectsFolder(unittest.TestCase):
 
 
 class CountsMail(unittest.TestCase):
-    """Standard error has the number of messages that got their 250, which no clause states."""
+    """Standard error has the number of messages that got their 250, which `main` has no clause for."""
 
     def __str__(self):
         return "example_smtp: the number of messages"

@@ -1,7 +1,7 @@
 -- The messages that a session delivers, step by step.
 use Rattle.std.proofs.Common.{◌≡◌, ◌≢◌, ◌∙◌, ℕ, None, Option, Some, List, [], ◌∷◌, ◌++◌, Err, Ok, Result}
 use Rattle.std.proofs.Common.{ap, append-nil, inl, inr, refl, subst, sym}
-use Rattle.std.proofs.Common.{◌-◌, Bool, false, true}
+use Rattle.std.proofs.Common.{◌-◌, ◌≤◌, Bool, arith, false, length-append, true}
 use Rattle.std.proofs.lemmas.Bool.{false≢true}
 use Rattle.std.proofs.lemmas.List.{map-append}
 use Rattle.std.proofs.lemmas.Grind.{flat_map-append}
@@ -25,7 +25,7 @@ use Rattle.example_smtp.specs.Commands.{ReadsCommand}
 use Rattle.example_smtp.specs.Deliveries.{AreExchanges, Brings, Delivers, Exchange, IsText, Sent}
 use Rattle.example_smtp.specs.Deliveries.{begun_after, ends, part_of}
 use Rattle.example_smtp.specs.Folder.{StoresIn}
-use Rattle.example_smtp.specs.Mail.{State, file_of, text_of_lines, unstuffed}
+use Rattle.example_smtp.specs.Mail.{Keeps, State, file_of, most_count, text_of_lines, unstuffed}
 use Rattle.example_smtp.specs.Session.{Counts, CountsBy, is_error}
 use Rattle.example_smtp.specs.Session.{AnswersAt, AnswersCommand, AnswersInput, AnswersLine, Ends}
 use Rattle.example_smtp.specs.Session.{Follows, RefusesAt, TakesLine, after, next_after}
@@ -44,6 +44,22 @@ use Rattle.example_smtp.specs.declared.session.Stage.{Stage}
 use Rattle.example_smtp.specs.declared.session.Stage.TheVariants.{Greeting, Lines, Ready}
 use Rattle.example_smtp.specs.declared.session.Stage.TheVariants.{Recipients, Sender}
 
+-- ---- mails that are stored and counted
+
+keeps_none : (state : State) → Keeps state [] state
+keeps_none state = (in_none state.folder, λ fits. grind arith)
+
+keeps_then : (old mid new : State) (first then : List (List ℕ)) → Keeps old first mid
+    → Keeps mid then new → Keeps old (first ++ then) new
+keeps_then old mid new first then before after = (
+  in_then old.folder mid.folder new.folder first then before.0 after.0,
+  λ fits.
+      let is = before.1 fits in
+      let small : mid.count ≤ most_count = grind arith in
+      let last = after.1 small in
+      grind (arith, length-append first then),
+)
+
 -- ---- one exchange
 
 -- the session is in the lines of a message, of which these were sent, or in none
@@ -57,13 +73,13 @@ pub record Moves (old : State) (begun : Option Sent) (line : Option (List ℕ)) 
     (new : State) : Type 0 where
   pub mails : List (List ℕ)
   pub brings : Brings (part_of said) begun line mails
-  pub stored : StoresIn old.folder mails new.folder
+  pub stored : Keeps old mails new
   pub inside : Inside (begun_after (part_of said) begun line) new
 
 module _ (old new : State) (begun : Option Sent) (line : Option (List ℕ)) (said : Option Reply)
   where
     -- a message is dropped, or there was none
-    quiet : part_of said ≡ ends → new.stage ≢ Lines → StoresIn old.folder [] new.folder
+    quiet : part_of said ≡ ends → new.stage ≢ Lines → Keeps old [] new
         → Moves old begun line said new
     quiet part apart stored = record {
       mails = [];
@@ -75,7 +91,7 @@ module _ (old new : State) (begun : Option Sent) (line : Option (List ℕ)) (sai
     -- nothing changes
     stays : part_of said ≡ ends → old.stage ≢ Lines → new ≡ old → Moves old begun line said new
     stays part apart same = quiet part (λ is. apart (ap (λ (s : State). s.stage) (sym same) ∙ is))
-        (subst (λ (s : State). StoresIn old.folder [] s.folder) (sym same) (in_none old.folder))
+        (subst (Keeps old []) (sym same) (keeps_none old))
 
 -- the part of a reply that is known
 part_by : (said : Option Reply) (reply other : Reply) → said ≡ Some reply → reply ≡ other
@@ -111,12 +127,11 @@ module _ (old new : State) (line : List ℕ) (said : Option Reply) (apart : old.
   -- a command that begins no message
   carried : (command : Command) → said ≡ Some (reply_to command) → new ≡ after old command
       → part_of (Some (reply_to command)) ≡ ends → (after old command).stage ≢ Lines
-      → (after old command).folder ≡ old.folder → Moves old None (Some line) said new
-  carried command is same part stage folder =
+      → Keeps old [] (after old command) → Moves old None (Some line) said new
+  carried command is same part stage kept =
       quiet old new None (Some line) said (ap part_of is ∙ part)
       (λ l. stage (ap (λ (s : State). s.stage) (sym same) ∙ l))
-      (subst (λ f. StoresIn old.folder [] f)
-      (sym (ap (λ (s : State). s.folder) same ∙ folder)) (in_none old.folder))
+      (subst (Keeps old []) (sym same) kept)
 
   -- a command that is carried out
   followed : (command : Command) → said ≡ Some (reply_to command) → new ≡ after old command
@@ -125,20 +140,20 @@ module _ (old new : State) (line : List ℕ) (said : Option Reply) (apart : old.
       (subst (λ s. Moves old None (Some line) (Some (reply_to BeginLines)) s) (sym same) (record {
         mails = [];
         brings = refl;
-        stored = in_none old.folder;
+        stored = keeps_none old;
         inside = (refl, λ whole. ([], refl, refl));
       }))
   followed (Introduce domain) is same =
-      carried (Introduce domain) is same refl (λ l. cc) refl
-  followed (Extend domain) is same = carried (Extend domain) is same refl (λ l. cc) refl
+      carried (Introduce domain) is same refl (λ l. cc) (keeps_none old)
+  followed (Extend domain) is same = carried (Extend domain) is same refl (λ l. cc) (keeps_none old)
   followed (SetSender address) is same =
-      carried (SetSender address) is same refl (λ l. cc) refl
+      carried (SetSender address) is same refl (λ l. cc) (keeps_none old)
   followed (AddRecipient address) is same =
-      carried (AddRecipient address) is same refl (λ l. cc) refl
-  followed Reset is same = carried Reset is same refl (reset_apart old.stage) refl
-  followed (Verify mailbox) is same = carried (Verify mailbox) is same refl apart refl
-  followed command.Reply is same = carried command.Reply is same refl apart refl
-  followed Leave is same = carried Leave is same refl apart refl
+      carried (AddRecipient address) is same refl (λ l. cc) (keeps_none old)
+  followed Reset is same = carried Reset is same refl (reset_apart old.stage) (keeps_none old)
+  followed (Verify mailbox) is same = carried (Verify mailbox) is same refl apart (keeps_none old)
+  followed command.Reply is same = carried command.Reply is same refl apart (keeps_none old)
+  followed Leave is same = carried Leave is same refl apart (keeps_none old)
 
   -- a command, or why there is none
   by_outcome : (reply : Reply) → said ≡ Some reply → (outcome : Result Command Reply)
@@ -203,14 +218,14 @@ module _ (old new : State) (sent : Sent) (said : Option Reply) (inside : Inside 
   where
     -- a line that is not answered
     goes_on : (line : Option (List ℕ)) → said ≡ None → line ≢ Some (codes ".")
-        → new.folder ≡ old.folder → new.stage ≡ old.stage
+        → Keeps old [] new → new.stage ≡ old.stage
         → (new.fault ≡ None → IsText (sent ++ line ∷ []) new.draft.text)
         → Moves old (Some sent) line said new
-    goes_on line is other folder stage kept =
+    goes_on line is other stored stage kept =
         subst (λ r. Moves old (Some sent) line r new) (sym is) (record {
           mails = [];
           brings = (refl, other);
-          stored = subst (λ f. StoresIn old.folder [] f) (sym folder) (in_none old.folder);
+          stored = stored;
           inside = (stage ∙ inside.0, kept);
         })
 
@@ -221,7 +236,7 @@ module _ (old new : State) (sent : Sent) (said : Option Reply) (inside : Inside 
         quiet old new (Some sent) (Some (codes ".")) said
         (part_by said reply _ is done (fault_part fault))
         (λ l. let e : Ready ≡ Lines = ap (λ (s : State). s.stage) (sym same) ∙ l in cc)
-        (subst (λ (s : State). StoresIn old.folder [] s.folder) (sym same) (in_none old.folder))
+        (subst (Keeps old []) (sym same) (keeps_none old))
     ended reply is None whole (stores, same) =
         let apart : new.stage ≢ Lines =
         λ l. let e : Ready ≡ Lines = ap (λ (s : State). s.stage) (sym same) ∙ l in cc in
@@ -239,8 +254,10 @@ module _ (old new : State) (sent : Sent) (said : Option Reply) (inside : Inside 
               (part_by said reply _ is failed.0 refl) apart failed.1
           | inr (inr memory) ↦
               quiet old new (Some sent) (Some (codes ".")) said
-              (part_by said reply _ is memory.0 refl) apart
-              (subst (λ f. StoresIn old.folder [] f) (sym memory.1) (in_none old.folder))
+              (part_by said reply _ is memory.0 refl) apart (
+                subst (λ f. StoresIn old.folder [] f) (sym memory.1) (in_none old.folder),
+                λ fits. memory.2 ∙ (keeps_none old).1 fits,
+              )
         ]
 
     -- a line that is kept, or ignored
@@ -249,23 +266,23 @@ module _ (old new : State) (sent : Sent) (said : Option Reply) (inside : Inside 
         → Moves old (Some sent) (Some line) said new
     taken line is other (Some fault) bad same =
         goes_on (Some line) is (λ e. other (ap text_in e))
-        (ap (λ (s : State). s.folder) same) (ap (λ (s : State). s.stage) same)
+        (subst (Keeps old []) (sym same) (keeps_none old)) (ap (λ (s : State). s.stage) same)
         (λ none. let e : None ≡ Some fault =
         sym none ∙ (ap (λ (s : State). s.fault) same ∙ bad) in cc)
     taken line is other None whole keeps = elim keeps [
       | inl fits ↦
           goes_on (Some line) is (λ e. other (ap text_in e))
-          (ap (λ (s : State). s.folder) fits.1) (ap (λ (s : State). s.stage) fits.1)
+          (subst (Keeps old []) (sym fits.1) (keeps_none old)) (ap (λ (s : State). s.stage) fits.1)
           (λ none. subst (λ (s : State). IsText (sent ++ Some line ∷ []) s.draft.text)
           (sym fits.1) (text_more sent old.draft.text line (inside.1 whole)))
       | inr (inl large) ↦
           goes_on (Some line) is (λ e. other (ap text_in e))
-          (ap (λ (s : State). s.folder) large.1) (ap (λ (s : State). s.stage) large.1)
+          (subst (Keeps old []) (sym large.1) (keeps_none old)) (ap (λ (s : State). s.stage) large.1)
           (λ none. let e : None ≡ Some TooLarge =
           sym none ∙ ap (λ (s : State). s.fault) large.1 in cc)
       | inr (inr memory) ↦
           goes_on (Some line) is (λ e. other (ap text_in e))
-          (ap (λ (s : State). s.folder) memory) (ap (λ (s : State). s.stage) memory)
+          (subst (Keeps old []) (sym memory) (keeps_none old)) (ap (λ (s : State). s.stage) memory)
           (λ none. let e : None ≡ Some NoMemory =
           sym none ∙ ap (λ (s : State). s.fault) memory in cc)
     ]
@@ -284,7 +301,7 @@ module _ (old new : State) (sent : Sent) (said : Option Reply) (inside : Inside 
     refused : (error : LineError) → RefusesAt Lines old error said new
         → Moves old (Some sent) None said new
     refused error (silent, same) =
-        goes_on None silent (λ is. cc) (ap (λ (s : State). s.folder) same)
+        goes_on None silent (λ is. cc) (subst (Keeps old []) (sym same) (keeps_none old))
         (ap (λ (s : State). s.stage) same)
         (λ none. let e : None ≡ Some (first_fault old.fault error) =
         sym none ∙ ap (λ (s : State). s.fault) same in cc)
@@ -318,7 +335,7 @@ module _ (old new : State) (said : Option Reply) where
     | inl cut ↦
         quiet old new begun (Some input.body) said (ap part_of cut.1)
         (λ l. let e : Greeting ≡ Lines = ap (λ (s : State). s.stage) (sym cut.2) ∙ l in cc)
-        (subst (λ (s : State). StoresIn old.folder [] s.folder) (sym cut.2) (in_none old.folder))
+        (subst (Keeps old []) (sym cut.2) (keeps_none old))
     | inr whole ↦ at begun inside whole.1
   ]
     where
@@ -412,19 +429,19 @@ module _ (first : ChannelState) (events : List Event) (endings : Endings) (size 
     pub mails : List (List ℕ)
     pub are : AreExchanges first events past steps exchanges
     pub delivers : Delivers begun exchanges mails
-    pub stored : StoresIn old.folder mails new.folder
+    pub stored : Keeps old mails new
 
   -- an exchange comes before others
   cons_exchange : (past : List Step) (begun : Option Sent) (old mid new : State)
       (line : Option (List ℕ)) (said : Option Reply) (exchanges : List Exchange)
       (mails : List (List ℕ)) (moved : Moves old begun line said mid)
       → Delivers (begun_after (part_of said) begun line) exchanges mails
-      → StoresIn mid.folder mails new.folder
+      → Keeps mid mails new
       → Delivers begun (record { line = line; reply = said } ∷ exchanges) (moved.mails ++ mails)
-      × StoresIn old.folder (moved.mails ++ mails) new.folder
+      × Keeps old (moved.mails ++ mails) new
   cons_exchange past begun old mid new line said exchanges mails moved delivers stored = (
     (moved.mails, mails, refl, moved.brings, delivers),
-    in_then old.folder mid.folder new.folder moved.mails mails moved.stored stored,
+    keeps_then old mid new moved.mails mails moved.stored stored,
   )
 
   -- the steps from a place on
@@ -438,8 +455,8 @@ module _ (first : ChannelState) (events : List Event) (endings : Endings) (size 
     mails = [];
     are = refl;
     delivers = refl;
-    stored = subst (λ (p : Place State). StoresIn a.handler.folder [] p.handler.folder) (sym same)
-        (in_none a.handler.folder);
+    stored = subst (λ (p : Place State). Keeps a.handler [] p.handler) (sym same)
+        (keeps_none a.handler);
   }
   tells a b past (step ∷ steps) begun inside (mid, turn, turns) ordered = go a.awaited step
       (AtEachSending-after (AreSentFirst first events) past (step ∷ []) steps ordered)

@@ -7,8 +7,7 @@ use Rattle.ascii_lines.specs.Exchanges.{bytes_of, given_in, said_in}
 use Rattle.ascii_lines.specs.Replies.{Step, rejected, reply_bytes, took}
 use Rattle.ascii_lines.specs.Serve.{AreSentFirst, ChannelState, Wrote}
 use Rattle.ascii_lines.specs.declared.serving.Stop.{Stop}
-use Rattle.example_smtp.specs.Folder.{StoresIn}
-use Rattle.example_smtp.specs.Mail.{Mail, State, file_of, text_of_lines}
+use Rattle.example_smtp.specs.Mail.{Keeps, Mail, State, file_of, text_of_lines}
 use Rattle.example_smtp.specs.Session.{reply_lines}
 use Rattle.example_smtp.specs.declared.commands.Reply.{Reply}
 use Rattle.example_smtp.specs.declared.commands.Reply.TheVariants.{Received, SendLines}
@@ -93,7 +92,7 @@ AreExchanges first events past (other ∷ steps) exchanges =
 
 -- a session was held over a channel, step by step: what came was taken, and the replies were written
 -- after what the channel held, or a prefix if the device failed. The folder has stored the messages
--- that the exchanges deliver, and nothing else
+-- that the exchanges deliver, and nothing else, and they are counted
 pub record Receives (old : ChannelState) (session : State) (why : Stop) (new : ChannelState)
     (last : State) : Type 0 where
   pub steps : List Step
@@ -106,4 +105,4 @@ pub record Receives (old : ChannelState) (session : State) (why : Stop) (new : C
   pub are : AreExchanges old events [] steps exchanges
   pub mails : List (List ℕ)
   pub delivers : Delivers None exchanges mails
-  pub stored : StoresIn session.folder mails last.folder
+  pub stored : Keeps session mails last

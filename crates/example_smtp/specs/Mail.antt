@@ -1,9 +1,10 @@
 -- A message, and the state of the session that receives it.
-use Rattle.std.specs.Prelude.{◌==◌, ℕ, List, [], ◌∷◌, ◌++◌, None, codes, if◌then◌else◌, map}
+use Rattle.std.specs.Prelude.{◌≡◌, ◌==◌, ◌≤◌, ◌+◌, ◌-◌, ◌^◌, ℕ, List, [], ◌∷◌, ◌++◌, None, codes}
+use Rattle.std.specs.Prelude.{if◌then◌else◌, length, map, min}
 use Rattle.std.specs.List.{flat_map}
 use Rattle.std.specs.declared.option.Option.{Option}
 use Rattle.ascii.specs.StringState.{StringState}
-use Rattle.example_smtp.specs.Folder.{Contents}
+use Rattle.example_smtp.specs.Folder.{Contents, StoresIn}
 use Rattle.example_smtp.specs.declared.session.Fault.{Fault}
 use Rattle.example_smtp.specs.declared.message.Message.{Message}
 use Rattle.example_smtp.specs.declared.session.Stage.{Stage}
@@ -39,13 +40,14 @@ abbrev pub file_of : Mail → List ℕ
 file_of mail = envelope_of mail ++ mail.text
 
 -- the state of a session: what it awaits, the message that was begun, the first fault in its lines,
--- if there is one, at how many errors more the client is left, and what is in its folder, if it has
--- one
+-- if there is one, at how many errors more the client is left, how many messages were received, and
+-- what is in its folder, if it has one
 pub record State : Type 0 where
   pub stage : Stage
   pub draft : Mail
   pub fault : Option Fault
   pub left : ℕ
+  pub count : ℕ
   pub folder : Option Contents
 
 -- the texts of strings
@@ -65,6 +67,21 @@ abbrev pub no_mail : Mail
 no_mail = record { sender = []; recipients = []; text = [] }
 
 -- no message was begun
-abbrev pub idle : Stage → ℕ → Option Contents → State
-idle stage left folder =
-    record { stage = stage; draft = no_mail; fault = None; left = left; folder = folder }
+abbrev pub idle : Stage → ℕ → ℕ → Option Contents → State
+idle stage left count folder = record {
+  stage = stage;
+  draft = no_mail;
+  fault = None;
+  left = left;
+  count = count;
+  folder = folder;
+}
+
+-- the most messages that are counted
+abbrev pub most_count : ℕ
+most_count = 2 ^ 64 - 1
+
+-- between two states mails of these bytes were stored, in order, and counted
+abbrev pub Keeps : State → List (List ℕ) → State → Type 0
+Keeps old mails new = StoresIn old.folder mails new.folder
+    × (old.count ≤ most_count → new.count ≡ min (old.count + length mails) most_count)

@@ -13,8 +13,7 @@ use Rattle.ascii_lines.specs.declared.line_reader.LineError.TheVariants.{LoneBre
 use Rattle.ascii_lines.specs.declared.serving.Next.{Next}
 use Rattle.ascii_lines.specs.declared.serving.Next.TheVariants as next
 use Rattle.example_smtp.specs.Commands.{IsForeign, ReadsCommand, most_bytes, reply_line}
-use Rattle.example_smtp.specs.Folder.{StoresIn}
-use Rattle.example_smtp.specs.Mail.{State, file_of, idle, no_mail, unstuffed}
+use Rattle.example_smtp.specs.Mail.{Keeps, State, file_of, idle, no_mail, unstuffed}
 use Rattle.example_smtp.specs.declared.commands.Command.{Command}
 use Rattle.example_smtp.specs.declared.commands.Command.TheVariants.{AddRecipient, BeginLines, Extend}
 use Rattle.example_smtp.specs.declared.commands.Command.TheVariants.{Introduce, Leave, Reset}
@@ -129,15 +128,16 @@ reply_of_fault NoMemory = reply.NoMemory
 -- a message without a fault is stored, or could not be, or there is no memory for its envelope
 abbrev pub EndsWhole : State → Reply → State → Type 0
 EndsWhole old said new =
-    ((said ≡ reply.Received) × StoresIn old.folder (file_of old.draft ∷ []) new.folder)
-    ⊎ ((said ≡ reply.NotStored) × StoresIn old.folder [] new.folder)
-    ⊎ ((said ≡ reply.NoMemory) × (new.folder ≡ old.folder))
+    ((said ≡ reply.Received) × Keeps old (file_of old.draft ∷ []) new)
+    ⊎ ((said ≡ reply.NotStored) × Keeps old [] new)
+    ⊎ ((said ≡ reply.NoMemory) × (new.folder ≡ old.folder) × (new.count ≡ old.count))
 
 -- the message that was begun is ended with this reply, by its fault, and another may begin
 abbrev pub Ends : Option Fault → State → Reply → State → Type 0
-Ends None old said new = EndsWhole old said new × (new ≡ idle Ready old.left new.folder)
+Ends None old said new =
+    EndsWhole old said new × (new ≡ idle Ready old.left new.count new.folder)
 Ends (Some fault) old said new =
-    (said ≡ reply_of_fault fault) × (new ≡ idle Ready old.left old.folder)
+    (said ≡ reply_of_fault fault) × (new ≡ idle Ready old.left old.count old.folder)
 
 -- the reply to a line of a message: a dot alone ends it; to another line there is none
 abbrev pub AnswersLine : State → List ℕ → Option Reply → State → Type 0

@@ -12,7 +12,7 @@ use std::alloc::Allocator;
 
 /// Receives mail until the client leaves, the input ends, or an error occurs, and returns why it stopped. The folder
 /// has stored each message that got its 250, once and whole, after an envelope; and nothing that was there was
-/// replaced or removed.
+/// replaced or removed. The session has counted them.
 ///
 /// Condition: no call of the device to write has failed, and the session is a new one.
 pub fn receive<C: Channel, A: Allocator, F: Folder>(
@@ -20,7 +20,7 @@ pub fn receive<C: Channel, A: Allocator, F: Folder>(
     session: &mut Session<F>,
 ) -> Stop
     requires lines { IsUp lines.old.state }
-    requires session { session.old ≡ idle Stage.Greeting 20 session.old.folder }
+    requires session { session.old ≡ idle Stage.Greeting 20 0 session.old.folder }
     ensures { Receives lines.old.state session.old result lines.new.state session.new }
 {
     serve(lines, session)

@@ -76,6 +76,7 @@ impl<F: Folder> Model for Session<F> {
       draft = mail_of session.draft;
       fault = session.fault;
       left = session.left;
+      count = session.count;
       folder = session.mailbox;
     } };
 }
@@ -88,7 +89,7 @@ impl<F: Folder> Session<F> {
 
     /// Creates a session that stores messages in the mailbox, if there is one. Does not allocate.
     pub fn new(alloc: Global, mailbox: Option<Mailbox<F>>) -> Session<F>
-        ensures { result ≡ idle Stage.Greeting 20 mailbox }
+        ensures { result ≡ idle Stage.Greeting 20 0 mailbox }
     {
         Session {
             alloc,
@@ -102,7 +103,9 @@ impl<F: Folder> Session<F> {
     }
 
     /// Returns the number of messages that were received.
-    pub fn message_count(&self) -> usize {
+    pub fn message_count(&self) -> usize
+        ensures { result ≡ self.now.count }
+    {
         self.count
     }
 
