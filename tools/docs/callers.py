@@ -181,10 +181,12 @@ def named_for(crate):
 
 
 def for_callers(path, crate):
-    """The path by which a caller of a crate imports a definition, which the crate may re-export."""
-    rest = path.split(".")[2:]
-    if rest[0] == "specs" and (named_for(crate), rest[1]) in re_exports():
-        return ".".join(["Rattle", named_for(crate), *rest])
+    """The path by which a caller of a crate imports a definition, which the crate, or the one that a caller names for its owner,
+    may re-export."""
+    owner, *rest = path.split(".")[1:]
+    for named in (named_for(crate), named_for(owner)):
+        if rest[0] == "specs" and (named, rest[1]) in re_exports():
+            return ".".join(["Rattle", named, *rest])
     return path
 
 
