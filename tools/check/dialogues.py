@@ -120,6 +120,7 @@ DIALOGUES = [
     mail("a client that asks for extensions", (b"EHLO c\r\nEHLO \r\n", EXTENSIONS + ARGUMENT)),
     mail("the last error", (b"HELO c\r\n" + b"x\r\n" * 18 + b"NOOP\r\nDATA\r\n\xff\r\nNOOP\r\n", OK + b"500 unknown command\r\n" * 18 + OK + b"503 bad sequence\r\n421 closing\r\n")),
     mail("parameters after a path", (b"HELO c\r\nMAIL FROM:<a@b> BODY=8BITMIME\r\nMAIL FROM:<a@b>\r\nRCPT TO:<c@d> SIZE=1\r\n", OK + PARAMETER + OK + PARAMETER)),
+    mail("a size after other commands", (b"HELO c\r\nMAIL FROM:<a@b>\r\nRCPT TO:<c@d> SIZE=16777217\r\nDATA SIZE=16777217\r\n", OK * 2 + PARAMETER + ARGUMENT)),
     *[mail(f"a message with {word}", (b"HELO c\r\nMAIL FROM:<\"a> SIZE=1\"@b> " + word + b"\r\nRSET\r\n", OK + said + OK))
       for word, said in [(b"SIZE=0", OK), (b"size=16777216", OK), (b"SIZE=16777217", LARGE), (b"SIZE=18446744073709551615", LARGE)]],
     *[mail(f"a message with {word}", (b"HELO c\r\nMAIL FROM:<a@b> " + word + b"\r\nMAIL FROM:<>\r\n", OK + PARAMETER + OK))

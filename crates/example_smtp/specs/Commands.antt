@@ -91,13 +91,18 @@ abbrev pub IsTooLarge : List ℕ → Type 0
 IsTooLarge argument =
     (path : List ℕ) × (size : ℕ) × IsSized argument path size × (most_bytes < size)
 
--- the reply to an argument that is not as its verb takes it: there may be a size or another parameter
+-- `verb` begins a message that is too large
+abbrev pub IsLargeMail : Verb → List ℕ → Type 0
+IsLargeMail verb argument = (verb ≡ Mail) × IsTooLarge argument
+
+-- the reply to an argument that is not as `verb` takes it: there may be a size or another parameter
 -- after a path
-abbrev pub IsArgumentFault : List ℕ → Reply → Type 0
-IsArgumentFault argument fault = (IsTooLarge argument × (fault ≡ reply.LargeMessage))
-    ⊎ (¬ (IsTooLarge argument) × ContainsText (codes "> ") argument
+abbrev pub IsArgumentFault : Verb → List ℕ → Reply → Type 0
+IsArgumentFault verb argument fault =
+    (IsLargeMail verb argument × (fault ≡ reply.LargeMessage))
+    ⊎ (¬ (IsLargeMail verb argument) × ContainsText (codes "> ") argument
     × (fault ≡ reply.UnknownParameter))
-    ⊎ (¬ (IsTooLarge argument) × ¬ (ContainsText (codes "> ") argument)
+    ⊎ (¬ (IsLargeMail verb argument) × ¬ (ContainsText (codes "> ") argument)
     × (fault ≡ reply.BadArgument))
 
 -- `line` begins with the name of `verb`, in any case
@@ -123,7 +128,8 @@ abbrev pub IsFault : List ℕ → Reply → Type 0
 IsFault line fault = ((fault ≡ reply.UnknownCommand)
     × ((said : List ℕ) × IsSaid said line × ((verb : Verb) → ¬ (BeginsWithVerb said verb))))
     ⊎ ((said : List ℕ) × (verb : Verb) × (argument : List ℕ) × IsSaid said line
-    × IsCall said verb argument × ¬ (IsArgument verb argument) × IsArgumentFault argument fault)
+    × IsCall said verb argument × ¬ (IsArgument verb argument)
+    × IsArgumentFault verb argument fault)
 
 -- `Ok`: the command that `line` says. `Err`: the reply that says why it does not say one
 abbrev pub ReadsCommand : List ℕ → Result Command Reply → Type 0

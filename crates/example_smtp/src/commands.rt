@@ -175,7 +175,7 @@ pub fn read_command<'a>(line: AsciiStr<'a>) -> Result<Command<'a>, Reply>
     match read_verb(line.trim_end_matches::<Blank>()) {
         Some(call) => match command_of(call.verb, call.argument) {
             Some(command) => Ok(command),
-            None => Err(argument_fault(call.argument)),
+            None => Err(argument_fault(call.verb, call.argument)),
         },
         None => Err(Reply::UnknownCommand),
     }
@@ -320,10 +320,10 @@ fn is_too_large(argument: AsciiStr<'_>) -> bool
 }
 
 /// Returns the reply to an argument that is not as its verb takes it.
-fn argument_fault(argument: AsciiStr<'_>) -> Reply
-    ensures { IsArgumentFault (text_of argument.entry) result }
+fn argument_fault(verb: Verb, argument: AsciiStr<'_>) -> Reply
+    ensures { IsArgumentFault verb (text_of argument.entry) result }
 {
-    if is_too_large(argument) {
+    if verb == Verb::Mail && is_too_large(argument) {
         Reply::LargeMessage
     } else if argument.contains(AsciiStr::literal("> ")) {
         Reply::UnknownParameter
