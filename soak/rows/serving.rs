@@ -75,7 +75,7 @@ const fn fault(name: &'static str, position: usize) -> Why {
 }
 
 /// An input, which endings end its lines, why the conversation stops, and what is written.
-static SESSIONS: [(&[u8], u8, Why, &str); 24] = [
+static SESSIONS: [(&[u8], u8, Why, &str); 28] = [
     (b"", ANY, END, ""),
     (b"a\nb", ANY, END, "ok\r\nok\r\n"),
     (b"two\r\nquit\nz\n", ANY, Closed, "one\r\ntwo\r\nbye\r\n"),
@@ -86,6 +86,11 @@ static SESSIONS: [(&[u8], u8, Why, &str); 24] = [
     (b"a\npart\nbc", ANY, fault("incomplete", 2), "ok\r\nclosed\n"),
     (b"part", ANY, fault("incomplete", 0), "closed\n"),
     (b"a\npart\nbc\xffd\na\n", ANY, fault("ascii", 9), "ok\r\nbad byte\n"),
+    // A part that may have any bytes: the four of two letters of UTF-8, a text, and one that is cut off.
+    (b"bytes\n\xc3\xbc\xc3\xbca\n", ANY, END, "\u{fc}\u{fc}\r\nok\r\n"),
+    (b"bytes\na\nbcd\n", ANY, END, "ok\r\nok\r\n"),
+    (b"bytes\n\xc3\xbc\xc3", ANY, fault("incomplete", 3), "closed\n"),
+    (b"bytes", ANY, fault("incomplete", 0), "closed\n"),
     // A line that is rejected is skipped, and the conversation goes on.
     (b"a\nb\xff\nc\n", ANY, END, "ok\r\nbad byte\nok\r\n"),
     (b"\xff\nquit\n\xff\n", ANY, Closed, "bad byte\nbye\r\n"),

@@ -43,6 +43,7 @@ HELLO = (b"", b"220 ready\r\n")
 BAD = b"554 bad line\r\n"
 FULL = b"452 too many recipients\r\n"
 OK = b"250 OK\r\n"
+ALL = bytes(range(256))
 ARGUMENT, NO_VRFY = b"501 bad argument\r\n", b"252 not verified\r\n"
 PARAMETER = b"555 unknown parameter\r\n"
 DROPPED = b"554 bad message\r\n221 bye\r\n"
@@ -139,13 +140,17 @@ DIALOGUES = [
     smuggled("LF . CR LF", b"\n.\r\n"),
     smuggled("CR LF . LF", b"\r\n.\n"),
     smuggled("CR . CR", b"\r.\r"),
-    # What redis-server 7.0.15 replies, except to a quoted byte above 127, which is an error here.
+    # What redis-server 7.0.15 replies.
     store("words in quotes", (b"SET k 'it\\'s \"x\"\\n'\r\nGET \"k\"\r\nPING \"a\\n\\r\\t\\b\\a\\\\\\\"\\x41\\xZZ\\q\"\r\nPING a\"b c\"\r\nPING \"\"\r\n",
           b"+OK\r\n$10\r\nit's \"x\"\\n\r\n$13\r\na\n\r\t\x08\x07\\\"AxZZq\r\n$4\r\nab c\r\n$0\r\n\r\n")),
     store("words between white space", (b"\x0bPING\r\n  \r\n\tPING \x0bx \r\nPING a\x0bb\r\nPING 'a'\x0b\r\n", b"+PONG\r\n$1\r\nx\r\n$3\r\na\x0bb\r\n$1\r\na\r\n")),
     *[store(f"quotes that are not balanced in {line}", (line + b"\r\nPING\r\n", b"-ERR Protocol error: unbalanced quotes in request\r\n"))
       for line in [b'PING "a"b', b"PING 'a'b", b'PING "a', b"PING 'a", b'PING "a\\', b'PING "a\\"', b"PING 'a\\'", b"'a' b 'c", b'PING a"b']],
-    store("a quoted byte above 127", (b'PING "\\x7f"\r\nPING "\\xff"\r\nPING\r\n', b"$1\r\n\x7f\r\n-ERR Protocol error: bad input\r\n")),
+    store("a quoted byte above 127", (b'PING "\\x7f"\r\nPING "\\xff"\r\nPING\r\n', b"$1\r\n\x7f\r\n$1\r\n\xff\r\n+PONG\r\n")),
+    store("each byte in a key and a value",
+        (b"*3\r\n$3\r\nSET\r\n$256\r\n%s\r\n$256\r\n%s\r\n" % (ALL, ALL[::-1]), b"+OK\r\n"),
+        (b"*2\r\n$3\r\nGET\r\n$256\r\n%s\r\n" % ALL, b"$256\r\n%s\r\n" % ALL[::-1]),
+        (b"*2\r\n$3\r\nDEL\r\n$256\r\n%s\r\n" % ALL, b":1\r\n")),
     store("arrays without words", (b"*-1\r\n*0\r\nPING x\r\n", b"$1\r\nx\r\n")),
     store("what comes after QUIT", (b"PING hi\r\n\r\n*0\r\nQUIT\r\nPING\r\n", b"$2\r\nhi\r\n+OK\r\n")),
     store("several keys", (b"SET a 1\r\nSET b 2\r\nEXISTS a b c a\r\nDEL a a b c\r\nEXISTS a\r\n", b"+OK\r\n" * 2 + b":3\r\n:2\r\n:0\r\n")),

@@ -27,6 +27,7 @@ use Rattle.ascii_lines.specs.declared.line_reader.ReadLine.{ReadLine}
 use Rattle.ascii_lines.specs.declared.line_reader.Stage.{Stage}
 use Rattle.ascii_lines.specs.declared.line_reader.Stage.TheVariants.{Open, Ended, Refused}
 use Rattle.ascii_lines.specs.declared.wanted.Wanted.{Wanted}
+use Rattle.ascii_lines.specs.declared.wanted.Content.TheVariants.{Text}
 use Rattle.ascii_lines.specs.declared.wanted.Wanted.TheVariants as wanted
 
 -- ---- lines after lines
@@ -201,7 +202,7 @@ module _ {S : Type 0} where
       (result : Result (Option ReadLine) LineError) (error : LineError)
       → YieldsLines a lines old.state → Next old result new → result ≡ Err error
       → (before : ReaderState) × YieldsLines a lines before × (before.stage ≡ Open)
-      × StopsAt (wanted.Line before.endings) before error new.state
+      × StopsAt (wanted.Line before.endings Text) before error new.state
   an_error a lines old new result error so_far next is = grind (arith, next_by)
 
 -- ---- the lines of all that the source tells

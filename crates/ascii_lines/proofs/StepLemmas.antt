@@ -54,7 +54,7 @@ module _ {H : Type 0} (answers : H → Line → List Reply → Next → H → Ty
   pub some_given : (asked : Next) (what : Wanted) (bytes left : List ℕ) (input : Line)
       → Wants endings asked what → IsRequested (Input asked) → IsInputOf what bytes input
       → Completes now what bytes left → 0 < length bytes
-  some_given asked (wanted.Part n) bytes left input wants request is completes = grind arith
+  some_given asked (wanted.Part n content) bytes left input wants request is completes = grind arith
   some_given asked (wanted.Until code) bytes left input wants request is completes = grind arith
   some_given asked _ bytes left input wants request is completes =
       line_has_bytes _ bytes input is.0

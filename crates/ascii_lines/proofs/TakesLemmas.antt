@@ -18,6 +18,7 @@ use Rattle.ascii_lines.specs.Wanted.{FindsFault, IsEndOf, IsFar, IsLoneBreak, Is
 use Rattle.ascii_lines.specs.Wanted.{Gathers, IsOne, IsRefusal, IsStrict, LacksUpTo, MayBeLast}
 use Rattle.ascii_lines.specs.Wanted.{MayHave, MustRead}
 use Rattle.ascii_lines.specs.declared.line_reader.LineError.{LineError}
+use Rattle.ascii_lines.specs.declared.wanted.Content.TheVariants.{Text}
 use Rattle.ascii_lines.specs.declared.wanted.Found.{Found}
 use Rattle.ascii_lines.specs.declared.wanted.Wanted.{Wanted}
 use Rattle.ascii_lines.specs.declared.wanted.Wanted.TheVariants.{Line, Part, Until}
@@ -49,8 +50,8 @@ module _ (wanted : Wanted) (start : ℕ) (buffer : WindowState) (n : ℕ)
     where
       go : (wanted : Wanted) (is_last : Bool) → StopsBy wanted buffer n is_last
           → IsSearched wanted buffer.held (n - 1) → IsFar wanted start buffer.held
-      go (Part count) true stops free = omega (arith, beyond, long, stops.2)
-      go (Part count) false stops free = omega (arith, beyond, long, stops)
+      go (Part count content) true stops free = omega (arith, beyond, long, stops.2)
+      go (Part count content) false stops free = omega (arith, beyond, long, stops)
       go _ is_last stops free = (n, finds.within, free, omega (arith, beyond, long))
 
   -- the byte at `i` is CR, the last, and not after a CR
@@ -112,7 +113,7 @@ module _ (wanted : Wanted) (start : ℕ) (buffer : WindowState) (n : ℕ)
       go : (what : Wanted) (is_last : Bool) → StopsBy what buffer n is_last
           → FindsFault what bytes (Some i)
           → IsStrict what × IsLoneBreak wanted buffer.size buffer.held buffer.is_at_end i n
-      go (Part count) is_last stops found = absurd (none-some i (sym found))
+      go (Part count content) is_last stops found = absurd (none-some i (sym found))
       go (Until code) is_last stops found = absurd (none-some i (sym found))
       go _ true stops found =
           let free = rw found.0 at stops.2 in (
@@ -139,7 +140,7 @@ module _ (wanted : Wanted) (start : ℕ) (buffer : WindowState) (n : ℕ)
       → bytes ≢ [] → IsOneLine endings bytes
   line endings free whole some = (
     some_length bytes some,
-    rw long (searched_front buffer.held n (n - 1) (omega arith) (Line endings) free),
+    rw long (searched_front buffer.held n (n - 1) (omega arith) (Line endings Text) free),
     whole,
   )
 

@@ -33,13 +33,15 @@ use Rattle.ascii_lines.specs.declared.serving.Next.{Next}
 use Rattle.ascii_lines.specs.declared.serving.Next.TheVariants as next
 use Rattle.ascii_lines.specs.declared.serving.Stop.{Stop}
 use Rattle.ascii_lines.specs.declared.serving.Stop.TheVariants as stop
+use Rattle.ascii_lines.specs.declared.wanted.Content.{Content}
+use Rattle.ascii_lines.specs.declared.wanted.Content.TheVariants.{Any, Text}
 use Rattle.ascii_lines.specs.declared.wanted.Found.{Found}
 use Rattle.ascii_lines.specs.declared.wanted.Wanted.{Wanted}
 use Rattle.ascii_lines.specs.declared.wanted.Wanted.TheVariants as wanted
 use Rattle.ascii_lines.specs.declared.skipping.PassEnd.TheVariants as end
 use Rattle.ascii_lines.proofs.ReplyLemmas.{Says-nil, Says-trans}
 use Rattle.ascii_lines.proofs.SkippingLemmas.{clean_more, kept_clean}
-use Rattle.ascii_lines.proofs.WantedLemmas.{ends_front, searched_front, some_length}
+use Rattle.ascii_lines.proofs.WantedLemmas.{ends_front, may_none, searched_front, some_length}
 
 pub said-append : (xs ys : List Step) → said_in (xs ++ ys) ≡ said_in xs ++ said_in ys
 said-append [] ys = refl
@@ -211,8 +213,9 @@ over_by a b is same = cc
 lacks_wants : (endings : Endings) (size : ℕ) (asked : Next) (start : ℕ) (text : List ℕ)
     → Lacks endings size (Input asked) start text
     → (what : Wanted) × Wants endings asked what × MustRead what start size text
-lacks_wants endings size next.Line start text lacks = (wanted.Line endings, refl, lacks)
-lacks_wants endings size (next.Part n) start text lacks = (wanted.Part n, refl, lacks)
+lacks_wants endings size next.Line start text lacks = (wanted.Line endings Text, refl, lacks)
+lacks_wants endings size (next.Part n) start text lacks = (wanted.Part n Text, refl, lacks)
+lacks_wants endings size (next.Bytes n) start text lacks = (wanted.Part n Any, refl, lacks)
 lacks_wants endings size next.LineOnceSent start text lacks = absurd lacks
 lacks_wants endings size next.Close start text lacks = absurd lacks
 
@@ -388,6 +391,15 @@ module _ {H K : Type 0} (answers : H → Line → List Reply → Next → H → 
 
 -- ---- one step
 
+-- what is asked for is a part, if it is not a line
+part_asked : (endings : Endings) (asked : Next) → asked ≢ next.Line → IsRequested (Input asked)
+    → (n : ℕ) × (content : Content) × (0 < n) × Wants endings asked (wanted.Part n content)
+part_asked endings next.Line other asks = absurd (other refl)
+part_asked endings (next.Part n) other asks = (n, Text, asks, refl)
+part_asked endings (next.Bytes n) other asks = (n, Any, asks, refl)
+part_asked endings next.LineOnceSent other asks = absurd asks
+part_asked endings next.Close other asks = absurd asks
+
 module _ {H K : Type 0} (answers : H → Line → List Reply → Next → H → Type 0)
     (refuses : H → LineError → List Reply → Next → H → Type 0) (endings : Endings)
     (buffer : WindowState) (ended : Bool) (handler last : H) (start : ℕ) (out said : Saying K)
@@ -416,7 +428,20 @@ module _ {H K : Type 0} (answers : H → Line → List Reply → Next → H → 
         let place = finds.place ∙ ap (λ k. start + k) (sym long) in
         let parts = sym (take-append-drop n text) in (
           took input gave,
-          (then, what, take n text, refl, request, wants, is, stops.1, tells, parts, place),
+          (
+            then,
+            what,
+            take n text,
+            refl,
+            request,
+            wants,
+            is,
+            stops.1,
+            tells,
+            parts,
+            place,
+            finds.ends.may,
+          ),
           rw (append-nil gave) says,
           tt,
           sound_by now then (drop n text) request,
@@ -448,38 +473,32 @@ module _ {H K : Type 0} (answers : H → Line → List Reply → Next → H → 
         )
 
     -- there are no more lines
-    pub turn_ends : (asked : Next) → ((n : ℕ) → asked ≡ next.Part n → ⊥)
-        → IsRequested (Input asked) → now ≡ supply.Ended → text ≡ []
+    pub turn_ends : (asked : Next) → asked ≡ next.Line → now ≡ supply.Ended → text ≡ []
         → TurnOutcome answers refuses endings buffer.size now (here (Input asked)) out true
         (here (Nothing stop.EndOfInput)) out
-    turn_ends next.Line other asks ended none = (
+    turn_ends asked line ended none = (
       skipped [],
-      (stop.EndOfInput, refl, (refl, ended, none), refl),
+      (stop.EndOfInput, refl, (line, ended, none), refl),
       Says-nil out,
       tt,
       (ended, none),
       omega arith,
     )
-    turn_ends (next.Part n) other asks ended none = absurd (other n refl)
-    turn_ends next.LineOnceSent other asks ended none = absurd asks
-    turn_ends next.Close other asks ended none = absurd asks
 
     -- there is no part
-    pub turn_lacks : (asked : Next) (n : ℕ) (gave : List Reply) (then : Next)
-        → asked ≡ next.Part n → IsRequested (Input asked) → now ≡ supply.Ended → text ≡ []
-        → Says out gave said → refuses handler (fault.Incomplete 0) gave then last
-        → IsRequest then
+    pub turn_lacks : (asked : Next) (gave : List Reply) (then : Next) → asked ≢ next.Line
+        → IsRequested (Input asked) → now ≡ supply.Ended → text ≡ [] → Says out gave said
+        → refuses handler (fault.Incomplete 0) gave then last → IsRequest then
         → TurnOutcome answers refuses endings buffer.size now (here (Input asked)) out true
         (place_at (Nothing (stop.Reader (fault.Incomplete 0))) last start text) said
-    turn_lacks asked n gave then is asks ended none says tells request =
-        let some : 0 < n = rw is at asks in
+    turn_lacks asked gave then other asks ended none says tells request =
+        let (n, content, some, wants) = part_asked endings asked other asks in
+        let what = wanted.Part n content in
         let error = fault.Incomplete 0 in
-        let faults : Faults now (wanted.Part n) start buffer.size text error =
-        grind (arith, append-nil, IsAscii-nil) in
-        subst (λ a. TurnOutcome answers refuses endings buffer.size now (here (Input a)) out true
-        (place_at (Nothing (stop.Reader error)) last start text) said) (sym is) (
+        let faults : Faults now what start buffer.size text error =
+        grind (arith, append-nil, may_none) in (
           rejected error gave,
-          (then, wanted.Part n, inr (refl, λ _. inl tt), request, refl, tells, faults, refl, refl),
+          (then, what, inr (refl, λ _. inl tt), request, wants, tells, faults, refl, refl),
           rw (append-nil gave) says,
           tt,
           tt,
@@ -520,7 +539,7 @@ module _ (now : Supply) (endings : Endings) (then : Next) (start : ℕ) (text : 
   skips_end after is (low, stop) = inl (
     is,
     rw (length-take-le n text within)
-        (ends_front text n n (omega arith) (wanted.Line endings) stop),
+        (ends_front text n n (omega arith) (wanted.Line endings Text) stop),
   )
 
   -- the line goes on
@@ -529,7 +548,7 @@ module _ (now : Supply) (endings : Endings) (then : Next) (start : ℕ) (text : 
   skips_on part = inr (inl (
     refl,
     rw (length-take-le n text within)
-        (searched_front text n n (omega arith) (wanted.Line endings)
+        (searched_front text n n (omega arith) (wanted.Line endings Text)
         (λ k low. part.2 k (omega (arith, low, within)))),
     kept_clean endings [] text n within (λ cr_lf cr. absurd (omega (arith, cr))) part.3,
   ))

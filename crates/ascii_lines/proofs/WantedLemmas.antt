@@ -3,6 +3,7 @@ use Rattle.std.proofs.Common.{◌≡◌, ◌≢◌, ℕ, ◌+◌, ◌<◌, ◌�
 use Rattle.std.proofs.Common.{sym, [], ◌∷◌, refl, ◌-◌, ◌∙◌}
 use Rattle.std.proofs.lemmas.List.{get_or-take}
 use Rattle.std.proofs.lemmas.Str.{IsAscii-take}
+use Rattle.std.proofs.lemmas.Str.Ascii.{IsAscii-nil}
 use Rattle.std.specs.Str.{IsAscii}
 use Rattle.ascii.specs.Bytes.{FirstOther}
 use Rattle.ascii.proofs.EndingsLemmas.{FreeUpTo-same, IsFirstStop-same}
@@ -11,8 +12,9 @@ use Rattle.ascii_lines.specs.Wanted.{EndsAt, IsSearched, LacksUpTo, MayHave, Mus
 use Rattle.ascii_lines.specs.Wanted.{IsOtherIn, IsRefusal, Rejects}
 use Rattle.ascii_lines.specs.declared.line_reader.LineError.{LineError}
 use Rattle.ascii_lines.specs.declared.line_reader.LineError.TheVariants as error
+use Rattle.ascii_lines.specs.declared.wanted.Content.TheVariants.{Any}
 use Rattle.ascii_lines.specs.declared.wanted.Wanted.{Wanted}
-use Rattle.ascii_lines.specs.declared.wanted.Wanted.TheVariants.{Line, Bytes, Part, Until}
+use Rattle.ascii_lines.specs.declared.wanted.Wanted.TheVariants.{Line, Part, Until}
 
 pub some_length : (text : List ℕ) → text ≢ [] → 0 < length text
 some_length [] some = absurd (some refl)
@@ -33,10 +35,9 @@ module _ (held : List ℕ) (m n : ℕ) (low : n ≤ m) where
 
   pub searched_front : (wanted : Wanted) → IsSearched wanted held n
       → IsSearched wanted (take m held) n
-  searched_front (Line endings) free = FreeUpTo-same endings held (take m held) n at_whole free
-  searched_front (Bytes endings) free = FreeUpTo-same endings held (take m held) n at_whole free
+  searched_front (Line endings content) free = FreeUpTo-same endings held (take m held) n at_whole free
   searched_front (Until code) lacks = λ k less is. lacks k less (at_whole k less ∙ is)
-  searched_front (Part count) free = tt
+  searched_front (Part count content) free = tt
 
   pub ends_front : (wanted : Wanted) → EndsAt wanted held n → EndsAt wanted (take m held) n
   ends_front (Until code) (some, last, lacks) = (
@@ -44,20 +45,18 @@ module _ (held : List ℕ) (m n : ℕ) (low : n ≤ m) where
     at_front (n - 1) (omega (arith, some)) ∙ last,
     λ k less is. lacks k less (at_whole k (omega (arith, less)) ∙ is),
   )
-  ends_front (Line endings) ends = IsFirstStop-same endings held (take m held) n at_whole ends
-  ends_front (Bytes endings) ends = IsFirstStop-same endings held (take m held) n at_whole ends
-  ends_front (Part count) ends = ends
+  ends_front (Line endings content) ends = IsFirstStop-same endings held (take m held) n at_whole ends
+  ends_front (Part count content) ends = ends
 
   pub lacks_whole : (wanted : Wanted) → LacksUpTo wanted (take m held) n
       → LacksUpTo wanted held n
-  lacks_whole (Line endings) free = FreeUpTo-same endings (take m held) held n at_front free
-  lacks_whole (Bytes endings) free = FreeUpTo-same endings (take m held) held n at_front free
+  lacks_whole (Line endings content) free = FreeUpTo-same endings (take m held) held n at_front free
   lacks_whole (Until code) lacks = λ k less is. lacks k less (at_front k less ∙ is)
-  lacks_whole (Part count) low = low
+  lacks_whole (Part count content) low = low
 
   pub searched_whole : (wanted : Wanted) → IsSearched wanted (take m held) n
       → IsSearched wanted held n
-  searched_whole (Part count) free = tt
+  searched_whole (Part count content) free = tt
   searched_whole wanted free = lacks_whole wanted free
 
   pub ends_whole : (wanted : Wanted) → EndsAt wanted (take m held) n → EndsAt wanted held n
@@ -66,9 +65,14 @@ module _ (held : List ℕ) (m n : ℕ) (low : n ≤ m) where
     at_whole (n - 1) (omega (arith, some)) ∙ last,
     λ k less is. lacks k less (at_front k (omega (arith, less)) ∙ is),
   )
-  ends_whole (Line endings) ends = IsFirstStop-same endings (take m held) held n at_front ends
-  ends_whole (Bytes endings) ends = IsFirstStop-same endings (take m held) held n at_front ends
-  ends_whole (Part count) ends = ends
+  ends_whole (Line endings content) ends = IsFirstStop-same endings (take m held) held n at_front ends
+  ends_whole (Part count content) ends = ends
+
+-- no bytes may be in it
+pub may_none : (wanted : Wanted) → MayHave wanted []
+may_none (Line endings Any) = tt
+may_none (Part count Any) = tt
+may_none _ = IsAscii-nil
 
 pub searched_none : (wanted : Wanted) (text : List ℕ) → IsSearched wanted text 0
 searched_none wanted text = grind arith
@@ -82,7 +86,8 @@ late held n i ascii first = grind (arith, get_or-take)
 -- bytes that may be in it come before one that may not
 barred_late : (wanted : Wanted) (held : List ℕ) (n i : ℕ) → MayHave wanted (take n held)
     → IsBarred wanted held i → n ≤ i
-barred_late (Bytes endings) held n i may barred = absurd barred
+barred_late (Line endings Any) held n i may barred = absurd barred
+barred_late (Part count Any) held n i may barred = absurd barred
 barred_late _ held n i ascii first = late held n i ascii first
 
 module _ (wanted : Wanted) (buffer : WindowState) (part : List ℕ)
@@ -119,7 +124,7 @@ module _ (wanted : Wanted) (start : ℕ) (buffer : WindowState) (part : List ℕ
     where
       beyond : (wanted : Wanted) → LacksUpTo wanted buffer.held (length part)
           → IsFar wanted start buffer.held
-      beyond (Part count) here = omega (arith, here, far)
+      beyond (Part count content) here = omega (arith, here, far)
       beyond _ here =
           let back : length part + 1 - 1 ≡ length part = omega arith in
           (length part + 1, omega (arith, less), rw back here, omega (arith, far))

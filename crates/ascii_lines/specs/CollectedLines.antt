@@ -14,6 +14,7 @@ use Rattle.ascii_lines.specs.declared.owned_lines.BlockEnd.TheVariants as end
 use Rattle.ascii_lines.specs.declared.owned_lines.OwnedLine.{OwnedLine}
 use Rattle.ascii_lines.specs.declared.owned_lines.CollectedLines.{CollectedLines}
 use Rattle.ascii_lines.specs.declared.line_reader.Stage.TheVariants.{Open}
+use Rattle.ascii_lines.specs.declared.wanted.Content.TheVariants.{Text}
 use Rattle.ascii_lines.specs.declared.wanted.Wanted.TheVariants as wanted
 use Rattle.ascii_lines.specs.LineReader.{IsDone, ReaderState, StopsAt, YieldsLines}
 
@@ -32,7 +33,7 @@ abbrev pub YieldsUntil
     : ReaderState → List (WithStart Line) → Option LineError → ReaderState → Type 0
 YieldsUntil old lines None new = YieldsLines old lines new × IsDone new
 YieldsUntil old lines (Some error) new = (before : ReaderState) × YieldsLines old lines before
-    × (before.stage ≡ Open) × StopsAt (wanted.Line before.endings) before error new
+    × (before.stage ≡ Open) × StopsAt (wanted.Line before.endings Text) before error new
 
 -- if it is known which bytes the source of a reader in the state `old` has yet to give, `lines`
 -- are the first lines of these and of the bytes held, and with no error they are all of their

@@ -9,8 +9,9 @@ use Rattle.ascii_devices.specs.States.{SourceState}
 use Rattle.ascii_devices.specs.declared.DeviceFault.{DeviceFault}
 use Rattle.ascii_lines.specs.Failures.{one_more}
 use Rattle.ascii_lines.specs.Wanted.{MayHave}
+use Rattle.ascii_lines.specs.declared.wanted.Content.TheVariants.{Any}
 use Rattle.ascii_lines.specs.declared.wanted.Wanted.{Wanted}
-use Rattle.ascii_lines.specs.declared.wanted.Wanted.TheVariants.{Bytes}
+use Rattle.ascii_lines.specs.declared.wanted.Wanted.TheVariants.{Line, Part}
 
 -- what contracts see of a buffer: how many bytes a line may have; how many it has room for; the
 -- bytes taken last; the bytes that it holds; how many of these, from the first, are known to be
@@ -40,7 +41,8 @@ pub record IsLaidOut (size : ℕ) (bytes : List ℕ) (given from checked filled 
 
 -- the byte at `i` is the first that is not less than 128, and what is wanted may not have it
 abbrev pub IsBarred : Wanted → List ℕ → ℕ → Type 0
-IsBarred (Bytes endings) held i = ⊥
+IsBarred (Line endings Any) held i = ⊥
+IsBarred (Part count Any) held i = ⊥
 IsBarred wanted held i = FirstOther held 0 (length held) i
 
 -- of the bytes that a buffer holds, `part` are the first that may be in what is wanted: as many as

@@ -28,6 +28,7 @@ use Rattle.ascii_lines.specs.declared.line_reader.ReadPart.{ReadPart}
 use Rattle.ascii_lines.specs.declared.line_reader.Stage.{Stage}
 use Rattle.ascii_lines.specs.declared.line_reader.Stage.TheVariants.{Open, Ended, Refused}
 use Rattle.ascii_lines.specs.declared.wanted.Found.{Found}
+use Rattle.ascii_lines.specs.declared.wanted.Content.TheVariants.{Any, Text}
 use Rattle.ascii_lines.specs.declared.wanted.Wanted.{Wanted}
 use Rattle.ascii_lines.specs.declared.wanted.Wanted.TheVariants as wanted
 
@@ -170,9 +171,9 @@ YieldsLine wanted old (Err error) new = StopsAt wanted old error new
 -- what an open reader returns for a part of `n` bytes. `Ok`: the next `n` bytes with their start,
 -- and the reader is open. `Err`: the reader has stopped, and why
 abbrev pub YieldsPart : ℕ → ReaderState → Result ReadPart LineError → ReaderState → Type 0
-YieldsPart n old (Ok part) new = Takes (wanted.Part n) old (text_of part.text) new
+YieldsPart n old (Ok part) new = Takes (wanted.Part n Text) old (text_of part.text) new
     × (length (text_of part.text) ≡ n) × (part.start ≡ old.start) × (new.stage ≡ Open)
-YieldsPart n old (Err error) new = StopsAt (wanted.Part n) old error new
+YieldsPart n old (Err error) new = StopsAt (wanted.Part n Text) old error new
 
 -- the reader returned one text without `code`: either the code comes after it, and the reader is
 -- open; or the text is the last of the input, and the reader has ended
@@ -206,7 +207,7 @@ line_result (Err error) = Err error
 abbrev pub NextFrom : {S : Type 0}
     → Stage → Reading S → Result (Option ReadLine) LineError → Reading S → Type 0
 NextFrom Open old result new =
-    YieldsLine (wanted.Line old.state.endings) old.state (line_result result) new.state
+    YieldsLine (wanted.Line old.state.endings Text) old.state (line_result result) new.state
 NextFrom Ended old result new = (result ≡ Ok None) × (new ≡ old)
 NextFrom (Refused error) old result new = (result ≡ Err error) × (new ≡ old)
 
@@ -238,7 +239,7 @@ HasText other = ⊤
 abbrev pub NextBytesFrom : {S : Type 0}
     → Stage → Reading S → Result (Option ReadBytes) LineError → Reading S → Type 0
 NextBytesFrom Open old result new =
-    YieldsLine (wanted.Bytes old.state.endings) old.state (bytes_result result) new.state
+    YieldsLine (wanted.Line old.state.endings Any) old.state (bytes_result result) new.state
     × HasText result
 NextBytesFrom Ended old result new = (result ≡ Ok None) × (new ≡ old)
 NextBytesFrom (Refused error) old result new = (result ≡ Err error) × (new ≡ old)
@@ -396,7 +397,7 @@ Advances wanted old (Err error) new lent = StopsAt wanted old error new
 
 -- what a reader that has ended returns for what is wanted
 abbrev pub at_end : Wanted → Result Bool LineError
-at_end (wanted.Part n) = Err (Incomplete 0)
+at_end (wanted.Part n content) = Err (Incomplete 0)
 at_end wanted = Ok false
 
 -- the outcome of taking what is wanted, at a stage

@@ -75,6 +75,7 @@ SaysPart old text new = Says old (part_reply text ∷ []) new
 -- what is asked for has a byte at least: a line has, and a part is to be of one byte or more
 abbrev pub IsRequest : Next → Type 0
 IsRequest (next.Part n) = 0 < n
+IsRequest (next.Bytes n) = 0 < n
 IsRequest other = ⊤
 
 -- what happened in a conversation at one time. `took`: the handler was given a line or a part, and
@@ -96,10 +97,7 @@ at_end_before (byte ∷ others) is_at_end = false
 
 -- the line or part of these bytes. A line has an ending if the bytes end where one does
 abbrev pub IsInputOf : Wanted → List ℕ → Line → Type 0
-IsInputOf (wanted.Line endings) bytes input =
-    LinesEndedBy endings bytes (input ∷ []) × (line_text input ≡ bytes)
-    × (IsFirstStop endings bytes (length bytes) → input.ending ≢ Absent)
-IsInputOf (wanted.Bytes endings) bytes input =
+IsInputOf (wanted.Line endings content) bytes input =
     LinesEndedBy endings bytes (input ∷ []) × (line_text input ≡ bytes)
     × (IsFirstStop endings bytes (length bytes) → input.ending ≢ Absent)
 IsInputOf wanted bytes input = (input.body ≡ bytes) × (input.ending ≡ Absent)

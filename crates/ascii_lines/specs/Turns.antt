@@ -11,7 +11,7 @@ use Rattle.ascii_lines.specs.LineBuffer.{WindowState}
 use Rattle.ascii_lines.specs.Replies.{IsInputOf, IsRequest, Reply, Says, Saying, Step}
 use Rattle.ascii_lines.specs.Replies.{at_end_before, rejected, sent_out, skipped, took}
 use Rattle.ascii_lines.specs.Skipping.{HasNoEnd, IsCleanCut, IsFinal, WhyNotSkipped}
-use Rattle.ascii_lines.specs.Wanted.{EndsAt, MayBeLast, MustRead, Rejects}
+use Rattle.ascii_lines.specs.Wanted.{EndsAt, MayBeLast, MayHave, MustRead, Rejects}
 use Rattle.ascii_lines.specs.declared.conversation.Awaited.{Awaited}
 use Rattle.ascii_lines.specs.declared.conversation.Awaited.TheVariants.{Input, LineEnd, Nothing}
 use Rattle.ascii_lines.specs.declared.conversation.Awaited.TheVariants.{Sending}
@@ -23,6 +23,7 @@ use Rattle.ascii_lines.specs.declared.serving.Next.{Next}
 use Rattle.ascii_lines.specs.declared.serving.Next.TheVariants as next
 use Rattle.ascii_lines.specs.declared.serving.Stop.{Stop}
 use Rattle.ascii_lines.specs.declared.serving.Stop.TheVariants as stop
+use Rattle.ascii_lines.specs.declared.wanted.Content.TheVariants.{Any, Text}
 use Rattle.ascii_lines.specs.declared.wanted.Wanted.{Wanted}
 use Rattle.ascii_lines.specs.declared.wanted.Wanted.TheVariants as wanted
 
@@ -59,8 +60,9 @@ after_sent awaited = awaited
 
 -- what is asked for, as what is looked for in bytes
 abbrev pub Wants : Endings → Next → Wanted → Type 0
-Wants endings next.Line what = what ≡ wanted.Line endings
-Wants endings (next.Part n) what = what ≡ wanted.Part n
+Wants endings next.Line what = what ≡ wanted.Line endings Text
+Wants endings (next.Part n) what = what ≡ wanted.Part n Text
+Wants endings (next.Bytes n) what = what ≡ wanted.Part n Any
 Wants endings next.LineOnceSent what = ⊥
 Wants endings next.Close what = ⊥
 
@@ -125,6 +127,7 @@ module _ {H : Type 0} (answers : H → Line → List Reply → Next → H → Ty
       ⊎ ((now ≡ supply.Ended) × (new.text ≡ []) × MayBeLast what true))
       × answers old.handler input said then new.handler
       × (old.text ≡ bytes ++ new.text) × (new.start ≡ old.start + length bytes)
+      × MayHave what bytes
   IsTurnAt (Input asked) old (rejected error said) new = (then : Next) × (what : Wanted)
       × GoesTo asked error then new.awaited × IsRequest then × Wants endings asked what
       × refuses old.handler error said then new.handler
@@ -153,8 +156,10 @@ module _ {H : Type 0} (answers : H → Line → List Reply → Next → H → Ty
 -- a fault of it: they fit in the buffer of `size` bytes, and no line ends in them, or they are
 -- fewer than the part. Of a line that was rejected there is one byte at most
 abbrev pub Lacks : Endings → ℕ → Awaited → ℕ → List ℕ → Type 0
-Lacks endings size (Input next.Line) start text = MustRead (wanted.Line endings) start size text
-Lacks endings size (Input (next.Part n)) start text = MustRead (wanted.Part n) start size text
+Lacks endings size (Input next.Line) start text =
+    MustRead (wanted.Line endings Text) start size text
+Lacks endings size (Input (next.Part n)) start text = MustRead (wanted.Part n Text) start size text
+Lacks endings size (Input (next.Bytes n)) start text = MustRead (wanted.Part n Any) start size text
 Lacks endings size (LineEnd then) start text =
     FreeUpTo (any_text endings) text (length text) × (length text ≤ 1)
     × (start + length text < 2 ^ 64)

@@ -16,45 +16,43 @@ use Rattle.ascii_lines.specs.declared.line_reader.LineError.{LineError}
 use Rattle.ascii_lines.specs.declared.line_reader.LineError.TheVariants.{NotAscii, LoneBreak}
 use Rattle.ascii_lines.specs.declared.line_reader.LineError.TheVariants.{TooLong, TooFar}
 use Rattle.ascii_lines.specs.declared.line_reader.LineError.TheVariants.{Incomplete, Read}
+use Rattle.ascii_lines.specs.declared.wanted.Content.TheVariants.{Any}
 use Rattle.ascii_lines.specs.declared.wanted.Wanted.{Wanted}
-use Rattle.ascii_lines.specs.declared.wanted.Wanted.TheVariants.{Line, Bytes, Part, Until}
+use Rattle.ascii_lines.specs.declared.wanted.Wanted.TheVariants.{Line, Part, Until}
 
 -- ---- what is wanted
 
--- the bytes may be in what is wanted: all are ASCII, except in a line that may have any
+-- the bytes may be in what is wanted: all are ASCII, except in a line or part that may have any
 abbrev pub MayHave : Wanted → List ℕ → Type 0
-MayHave (Bytes endings) bytes = ⊤
+MayHave (Line endings Any) bytes = ⊤
+MayHave (Part count Any) bytes = ⊤
 MayHave wanted bytes = IsAscii bytes
 
 -- what is wanted is not among the first `n` bytes of `text`: none of them ends a line or shows a
 -- lone CR or LF; or the part is longer; or none of them is the code
 abbrev pub LacksUpTo : Wanted → List ℕ → ℕ → Type 0
-LacksUpTo (Line endings) text n = FreeUpTo endings text n
-LacksUpTo (Bytes endings) text n = FreeUpTo endings text n
-LacksUpTo (Part count) text n = n < count
+LacksUpTo (Line endings content) text n = FreeUpTo endings text n
+LacksUpTo (Part count content) text n = n < count
 LacksUpTo (Until code) text n = (k : ℕ) → k < n → slice_index text k ≢ code
 
 -- the first `n` bytes of `text` are what is wanted: the last of them is the first that ends a line
 -- or shows a lone CR or LF; or they are as many as the part has; or the last is the first of the
 -- code
 abbrev pub EndsAt : Wanted → List ℕ → ℕ → Type 0
-EndsAt (Line endings) text n = IsFirstStop endings text n
-EndsAt (Bytes endings) text n = IsFirstStop endings text n
-EndsAt (Part count) text n = n ≡ count
+EndsAt (Line endings content) text n = IsFirstStop endings text n
+EndsAt (Part count content) text n = n ≡ count
 EndsAt (Until code) text n =
     (0 < n) × (slice_index text (n - 1) ≡ code) × LacksUpTo (Until code) text (n - 1)
 
 -- the bytes are one line, or a part of this length, or have the code as the last at most
 abbrev pub IsOne : Wanted → List ℕ → Type 0
-IsOne (Line endings) bytes = IsOneLine endings bytes
-IsOne (Bytes endings) bytes = IsOneLine endings bytes
-IsOne (Part count) bytes = length bytes ≡ count
+IsOne (Line endings content) bytes = IsOneLine endings bytes
+IsOne (Part count content) bytes = length bytes ≡ count
 IsOne (Until code) bytes = LacksUpTo (Until code) bytes (length bytes - 1)
 
 -- a lone CR or LF is a fault in what is wanted
 abbrev pub IsStrict : Wanted → Type 0
-IsStrict (Line endings) = endings ≡ CrLfStrict
-IsStrict (Bytes endings) = endings ≡ CrLfStrict
+IsStrict (Line endings content) = endings ≡ CrLfStrict
 IsStrict wanted = ⊥
 
 -- ---- when the source is read
@@ -64,14 +62,10 @@ IsStrict wanted = ⊥
 -- without fault, and what is wanted is not among them. A part that is longer than the buffer, or
 -- ends after the position 2 ^ 64 - 1, is not read for
 abbrev pub MustRead : Wanted → ℕ → ℕ → List ℕ → Type 0
-MustRead (Line endings) start size held =
-    (length held ≤ size) × IsAscii held × FreeUpTo endings held (length held)
-MustRead (Bytes endings) start size held =
-    (length held ≤ size) × FreeUpTo endings held (length held)
-MustRead (Until code) start size held =
-    (length held ≤ size) × IsAscii held × LacksUpTo (Until code) held (length held)
-MustRead (Part count) start size held = (length held < count) × IsAscii held × (count ≤ size)
-    × (start + count < 2 ^ 64)
+MustRead (Part count content) start size held = (length held < count)
+    × MayHave (Part count content) held × (count ≤ size) × (start + count < 2 ^ 64)
+MustRead wanted start size held =
+    (length held ≤ size) × MayHave wanted held × LacksUpTo wanted held (length held)
 
 -- the pieces that were read, one at a call: before each of them `Must` was true of the bytes held
 -- until then, which were `held` before the first. No read was made after one without bytes
@@ -130,28 +124,29 @@ pub record IsLoneBreak (wanted : Wanted) (size : ℕ) (text : List ℕ) (is_at_e
 -- the byte at `i` is the first of `text` that is not less than 128, and comes among those that fit
 -- in `size` bytes and in what is wanted, which may not have it
 abbrev pub IsOtherIn : Wanted → ℕ → List ℕ → ℕ → Type 0
-IsOtherIn (Bytes endings) size text i = ⊥
+IsOtherIn (Line endings Any) size text i = ⊥
+IsOtherIn (Part count Any) size text i = ⊥
 IsOtherIn wanted size text i =
     (i < size) × FirstOther text 0 (length text) i × LacksUpTo wanted text i
 
 -- what is wanted does not fit in `size` bytes: the line or text has more, of which those that fit
 -- may be in it; or the part is longer
 abbrev pub IsOver : Wanted → ℕ → List ℕ → Type 0
-IsOver (Part count) size text = size < count
+IsOver (Part count content) size text = size < count
 IsOver wanted size text =
     (size < length text) × MayHave wanted (take size text) × LacksUpTo wanted text size
 
 -- what is wanted, which starts at the position `start` of the input, has a byte at the position
 -- 2 ^ 64 - 1 or after it; so it is if its first non-ASCII byte is there
 abbrev pub IsFar : Wanted → ℕ → List ℕ → Type 0
-IsFar (Part count) start text = 2 ^ 64 - 1 < start + count
+IsFar (Part count content) start text = 2 ^ 64 - 1 < start + count
 IsFar wanted start text =
     (n : ℕ) × (n ≤ length text) × LacksUpTo wanted text (n - 1) × (2 ^ 64 - 1 < start + n)
 
 -- a read has returned no bytes, and `text` is fewer bytes than the part has
 abbrev pub IsCutOff : Wanted → List ℕ → Bool → Type 0
-IsCutOff (Part count) text is_at_end =
-    (is_at_end ≡ true) × IsAscii text × (length text < count)
+IsCutOff (Part count content) text is_at_end =
+    (is_at_end ≡ true) × MayHave (Part count content) text × (length text < count)
 IsCutOff wanted text is_at_end = ⊥
 
 -- why a reader with a buffer of `size` bytes does not give what is wanted, which starts at the
@@ -197,29 +192,28 @@ pub record Delivers (wanted : Wanted) (start size : ℕ) (held : List ℕ)
 
 -- a part fits in a buffer of `size` bytes, and ends before the position 2 ^ 64
 abbrev pub MayFit : Wanted → ℕ → ℕ → Type 0
-MayFit (Part count) start size = (count ≤ size) × (start + count < 2 ^ 64)
+MayFit (Part count content) start size = (count ≤ size) × (start + count < 2 ^ 64)
 MayFit wanted start size = ⊤
 
 -- a part does not fit in a buffer of `size` bytes, or ends too far
 abbrev pub IsUnfit : Wanted → ℕ → ℕ → LineError → Type 0
-IsUnfit (Part count) start size (TooLong place) = (place ≡ start) × (size < count)
-IsUnfit (Part count) start size TooFar = 2 ^ 64 - 1 < start + count
+IsUnfit (Part count content) start size (TooLong place) = (place ≡ start) × (size < count)
+IsUnfit (Part count content) start size TooFar = 2 ^ 64 - 1 < start + count
 IsUnfit wanted start size error = ⊥
 
 -- the first `n` bytes of `text` were searched for the end of a line, or for the code
 abbrev pub IsSearched : Wanted → List ℕ → ℕ → Type 0
-IsSearched (Part count) text n = ⊤
+IsSearched (Part count content) text n = ⊤
 IsSearched wanted text n = LacksUpTo wanted text n
 
 -- the position of a lone CR or LF that is a fault among the last two of `bytes`, if there is one
 abbrev pub FindsFault : Wanted → List ℕ → Option ℕ → Type 0
-FindsFault (Line endings) bytes found = FindsLoneBreak endings bytes found
-FindsFault (Bytes endings) bytes found = FindsLoneBreak endings bytes found
+FindsFault (Line endings content) bytes found = FindsLoneBreak endings bytes found
 FindsFault wanted bytes found = found ≡ None
 
 -- the bytes may be the last of the input: a part is not, if it is longer
 abbrev pub MayBeLast : Wanted → Bool → Type 0
-MayBeLast (Part count) true = ⊥
+MayBeLast (Part count content) true = ⊥
 MayBeLast wanted is_last = ⊤
 
 -- the position after `bytes`, or why they are not what is wanted: a part is longer, but they are

@@ -27,9 +27,9 @@ ghost use Rattle.ascii_lines.specs.Turns.{supply_at};
 
 use crate::line_buffer::LineBuffer;
 use crate::line_reader::LineError;
-use crate::serving::{Handler, Next, Replies, Stop, input_at};
+use crate::serving::{Handler, Next, Replies, Stop, received_at};
 use crate::skipping::{PassEnd, is_final, part_of_line, whole_endings};
-use crate::wanted::{Found, Wanted, look};
+use crate::wanted::{Content, Found, Wanted, look};
 use ascii::iter::Endings;
 use ascii_devices::{Channel, Sink};
 use std::alloc::{AllocError, Allocator, Global};
@@ -459,18 +459,16 @@ impl<A: Allocator> Dialogue<A> {
                 true
             }
             Awaited::Input(Next::Line) => {
-                let wanted = Wanted::Line(self.endings);
+                let wanted = Wanted::Line(self.endings, Content::Text);
                 self.input(handler, replies, Next::Line, wanted, is_ended, searched)
             }
             Awaited::Input(Next::Part(n)) => {
-                self.input(
-                    handler,
-                    replies,
-                    Next::Part(n),
-                    Wanted::Part(n),
-                    is_ended,
-                    searched,
-                )
+                let wanted = Wanted::Part(n, Content::Text);
+                self.input(handler, replies, Next::Part(n), wanted, is_ended, searched)
+            }
+            Awaited::Input(Next::Bytes(n)) => {
+                let wanted = Wanted::Part(n, Content::Any);
+                self.input(handler, replies, Next::Bytes(n), wanted, is_ended, searched)
             }
             Awaited::LineEnd(next) => self.skip(next, is_ended),
             Awaited::Input(Next::LineOnceSent | Next::Close)
@@ -498,12 +496,13 @@ impl<A: Allocator> Dialogue<A> {
         ensures buffer { self.new.buffer ≡ self.old.buffer }
         ensures endings { self.new.endings ≡ self.old.endings }
     {
-        if let Next::Part(_) = asked {
-            let error = LineError::Incomplete(0);
-            let _next = handler.refuse(error, replies);
-            self.awaited = Awaited::Nothing(Stop::Reader(error));
-        } else {
-            self.awaited = Awaited::Nothing(Stop::EndOfInput);
+        match asked {
+            Next::Line => self.awaited = Awaited::Nothing(Stop::EndOfInput),
+            _ => {
+                let error = LineError::Incomplete(0);
+                let _next = handler.refuse(error, replies);
+                self.awaited = Awaited::Nothing(Stop::Reader(error));
+            }
         }
     }
 
@@ -567,11 +566,10 @@ impl<A: Allocator> Dialogue<A> {
         ensures endings { self.new.endings ≡ self.old.endings }
         ensures at_end { self.new.buffer.is_at_end ≡ self.old.buffer.is_at_end }
     {
-        let start = self.start;
         self.buffer.take(found.count);
         self.start = found.end;
-        let input = input_at(wanted, start, self.buffer.line_bytes());
-        let next = handler.answer(input.text, input.ending, replies);
+        let received = received_at(wanted, self.buffer.line_bytes());
+        let next = handler.answer(received, replies);
         self.awaited = after_answer(next);
         true
     }
@@ -605,7 +603,7 @@ fn after_answer(next: Next) -> Awaited
     match next {
         Next::Close => Awaited::Nothing(Stop::Closed),
         Next::LineOnceSent => Awaited::Sending,
-        Next::Line | Next::Part(_) => Awaited::Input(next),
+        Next::Line | Next::Part(_) | Next::Bytes(_) => Awaited::Input(next),
     }
 }
 
@@ -614,9 +612,7 @@ fn after_fault(asked: Next, error: LineError, next: Next) -> Awaited
     ensures { GoesTo asked error next result }
 {
     match (asked, next) {
-        (Next::Line, Next::Line | Next::LineOnceSent | Next::Part(_)) if !is_final(error) => {
-            Awaited::LineEnd(next)
-        }
+        (Next::Line, next) if next != Next::Close && !is_final(error) => Awaited::LineEnd(next),
         _ => Awaited::Nothing(Stop::Reader(error)),
     }
 }

@@ -43,5 +43,5 @@ pub use folding::{LineStep, fold_lines};
 pub use line_reader::{LineError, LineReader, ReadBytes, ReadLine, ReadPart};
 pub use line_writer::{LineWriter, WriteError};
 pub use owned_lines::{Block, BlockEnd, CollectedLines, OwnedLine, collect_lines, read_block};
-pub use serving::{Handler, LineChannel, Next, Replies, Stop, serve};
+pub use serving::{Handler, LineChannel, Next, Received, Replies, Stop, serve};
 pub use skipping::SkippedLine;

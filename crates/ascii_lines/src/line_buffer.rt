@@ -7,7 +7,7 @@ ghost use Rattle.ascii_lines.specs.Turns.{PutsBehind};
 ghost use Rattle.ascii_lines.specs.LineBuffer.{Fills, IsAsciiLength, IsUsable, ReadsBehind};
 ghost use Rattle.ascii_lines.specs.LineBuffer.{Refills};
 
-use crate::wanted::Wanted;
+use crate::wanted::{Content, Wanted};
 use ascii::kernels::first_other;
 use ascii_devices::{DeviceFault, Source, zeros};
 use std::alloc::{AllocError, Allocator};
@@ -104,8 +104,8 @@ impl<A: Allocator> LineBuffer<A> {
         ensures { IsUsable wanted self.now result.now }
     {
         let end = match wanted {
-            Wanted::Bytes(_) => self.filled,
-            Wanted::Line(_) | Wanted::Part(_) | Wanted::Until(_) => self.checked,
+            Wanted::Line(_, Content::Any) | Wanted::Part(_, Content::Any) => self.filled,
+            _ => self.checked,
         };
         &self.bytes[self.from..self.from + (end - self.from).min(self.size)]
     }

@@ -168,7 +168,7 @@ fn nothing_left(wanted: Wanted) -> Result<bool, LineError>
     ensures { result ≡ at_end wanted }
 {
     match wanted {
-        Wanted::Line(_) | Wanted::Bytes(_) | Wanted::Until(_) => Ok(false),
-        Wanted::Part(_) => Err(LineError::Incomplete(0)),
+        Wanted::Line(..) | Wanted::Until(_) => Ok(false),
+        Wanted::Part(..) => Err(LineError::Incomplete(0)),
     }
 }

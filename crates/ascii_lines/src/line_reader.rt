@@ -12,7 +12,7 @@ ghost use Rattle.ascii_lines.specs.declared.wanted.Wanted.TheVariants.{Until};
 
 use crate::line_cursor::LineCursor;
 use crate::skipping::SkippedLine;
-use crate::wanted::Wanted;
+use crate::wanted::{Content, Wanted};
 use ascii::endings::split_ending;
 use ascii::iter::{Ending, Endings};
 use ascii::{AsciiChar, AsciiStr, bytes};
@@ -246,7 +246,7 @@ impl<S: Source, A: Allocator> LineReader<S, A> {
         let (start, endings) = (self.cursor.start(), self.cursor.endings());
         if self
             .cursor
-            .advance(&mut self.source, Wanted::Line(endings))?
+            .advance(&mut self.source, Wanted::Line(endings, Content::Text))?
         {
             Ok(Some(line_at(endings, start, self.cursor.line_bytes())))
         } else {
@@ -271,7 +271,7 @@ impl<S: Source, A: Allocator> LineReader<S, A> {
         let endings = self.cursor.endings();
         if self
             .cursor
-            .advance(&mut self.source, Wanted::Bytes(endings))?
+            .advance(&mut self.source, Wanted::Line(endings, Content::Any))?
         {
             let end = self.cursor.start();
             Ok(Some(bytes_at(endings, end, self.cursor.line_bytes())))
@@ -303,7 +303,8 @@ impl<S: Source, A: Allocator> LineReader<S, A> {
             (NextPart n self.old result)) }
     {
         let start = self.cursor.start();
-        self.cursor.advance(&mut self.source, Wanted::Part(n))?;
+        self.cursor
+            .advance(&mut self.source, Wanted::Part(n, Content::Text))?;
         Ok(ReadPart {
             start,
             text: bytes::as_ascii_str_unchecked(self.cursor.line_bytes()),

@@ -126,15 +126,18 @@ impl<K: Sink, A: Allocator> LineWriter<K, A> {
         ensures part { WritesPart self.old (text_of part.entry) result self.new }
         ensures within { FitsBuffer self.new }
     {
+        self.write_bytes(part.as_bytes())
+    }
+
+    /// The same of any bytes.
+    pub(crate) fn write_bytes(&mut self, bytes: &[u8]) -> Result<(), WriteError>
+        ensures part { WritesPart self.old bytes.now result self.new }
+        ensures within { FitsBuffer self.new }
+    {
         if self.buffer.is_broken() {
             return Err(WriteError::Write);
         }
-        put_line(
-            &mut self.buffer,
-            &mut self.sink,
-            part.as_bytes(),
-            Ending::Absent,
-        );
+        put_line(&mut self.buffer, &mut self.sink, bytes, Ending::Absent);
         if self.buffer.is_broken() {
             return Err(WriteError::Write);
         }

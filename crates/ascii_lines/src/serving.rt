@@ -10,19 +10,18 @@ ghost use Rattle.std.specs.Str.{IsAscii};
 ghost use Rattle.ascii.specs.Lines.{Line};
 ghost use Rattle.ascii.specs.View.{text_of};
 ghost use Rattle.ascii_lines.specs.Exchanges.{IsReplier};
-ghost use Rattle.ascii_lines.specs.LineReader.{read_line_in};
 ghost use Rattle.ascii_lines.specs.LineWriter.{line_with};
 ghost use Rattle.ascii_lines.specs.Replies.{IsInputOf, IsLineOutcome, IsRequest, Reply, Says};
 ghost use Rattle.ascii_lines.specs.Replies.{SaysPart, is_unbroken, line_given, line_reply};
 ghost use Rattle.ascii_lines.specs.Serve.{IsUp, RepliesToAll, SendsOut, Serves};
-ghost use Rattle.ascii_lines.specs.Wanted.{IsOne};
+ghost use Rattle.ascii_lines.specs.Wanted.{IsOne, MayHave};
 
 use crate::conversation::{Awaited, Conversation};
 use crate::line_buffer::LineBuffer;
-use crate::line_reader::{LineError, ReadLine, line_at};
+use crate::line_reader::{LineError, line_at};
 use crate::line_writer::{LineWriter, WriteError};
-use crate::wanted::Wanted;
-use ascii::endings::first_break;
+use crate::wanted::{Content, Wanted};
+use ascii::endings::{first_break, split_ending};
 use ascii::iter::{Ending, Endings};
 use ascii::{AsciiStr, bytes, text};
 use ascii_devices::{Channel, DeviceFault, Sink};
@@ -38,9 +37,11 @@ pub enum Next {
     /// The next line, once the replies so far were sent: the handler is not asked again before they were. It is for
     /// an answer that another step must not overtake or hold up, as that to a mail that was stored.
     LineOnceSent,
-    /// The next part of this number of bytes, of at least one. The handler is given it as it
+    /// The next part of this number of bytes, of at least one, which is ASCII. The handler is given it as it
     /// is: a protocol in which an ending follows a part asks for that as well.
     Part(usize),
+    /// The next part of this number of bytes, of at least one, which may be any.
+    Bytes(usize),
     /// Nothing: the conversation is over.
     Close,
 }
@@ -85,7 +86,7 @@ impl<K: Sink, A: Allocator> Replies<K, A> {
     ///
     ///     let writer = LineWriter::new(alloc, Output::new(Vec::new(alloc)), 64)?;
     ///     let mut replies = Replies::new(writer, Ending::Lf);
-    ///     Echo.answer(AsciiStr::literal("ab"), Ending::Lf, &mut replies) // Line
+    ///     Echo.answer(Received::of_text(AsciiStr::literal("ab"), Ending::Lf), &mut replies) // Line
     ///     let mut writer = replies.into_writer();
     ///     writer.flush() // Ok(())
     ///     writer.into_sink().into_inner() // [97, 98, 10]
@@ -161,7 +162,14 @@ impl<K: Sink, A: Allocator> Replies<K, A> {
     pub fn part(&mut self, text: AsciiStr<'_>)
         ensures { SaysPart self.old (text_of text.entry) self.new }
     {
-        let _ = self.writer.write_part(text);
+        self.bytes_part(text.as_bytes());
+    }
+
+    /// Writes bytes as they are.
+    fn bytes_part(&mut self, bytes: &[u8])
+        ensures { SaysPart self.old bytes.now self.new }
+    {
+        let _ = self.writer.write_bytes(bytes);
     }
 
     /// Writes a reply as a line, with each CR and LF in it, as a protocol does that announces the length. If the device
@@ -173,11 +181,26 @@ impl<K: Sink, A: Allocator> Replies<K, A> {
     ///     let mut writer = replies.into_writer();
     ///     writer.flush() // Ok(())
     ///     writer.into_sink().into_inner() // [97, 10, 98, 13, 10]
-    #[tactic(auto, using(crate::proofs::ReplyLemmas::said_text))]
     pub fn text(&mut self, text: AsciiStr<'_>)
         ensures { Says self.old (line_reply (text_of text.entry) ∷ []) self.new }
     {
-        self.part(text);
+        self.bytes(text.as_bytes());
+    }
+
+    /// Writes a reply as a line: these bytes as they are, with each CR and LF in it, as a protocol does that announces the
+    /// length. If the device has failed, nothing is written.
+    ///
+    ///     let writer = LineWriter::new(alloc, Output::new(Vec::new(alloc)), 64)?;
+    ///     let mut replies = Replies::new(writer, Ending::CrLf);
+    ///     replies.bytes(b"a\n\xff");
+    ///     let mut writer = replies.into_writer();
+    ///     writer.flush() // Ok(())
+    ///     writer.into_sink().into_inner() // [97, 10, 255, 13, 10]
+    #[tactic(auto, using(crate::proofs::ReplyLemmas::said_text))]
+    pub fn bytes(&mut self, bytes: &[u8])
+        ensures { Says self.old (line_reply bytes.now ∷ []) self.new }
+    {
+        self.bytes_part(bytes);
         self.fixed_line(AsciiStr::literal(""));
     }
 
@@ -242,6 +265,96 @@ impl<C: Channel, A: Allocator> Replies<C, A> {
     }
 }
 
+/// What a handler is given: a line without its ending, or a part. What it asked for as text is ASCII.
+#[derive(Drop)]
+pub struct Received<'a> {
+    bytes: &'a [u8],
+    ending: Ending,
+    is_text: bool,
+}
+
+impl<'a> Model for Received<'a> {
+    ghost use Rattle.std.specs.Prelude.{◌≡◌, true};
+    ghost use Rattle.std.specs.Str.{IsAscii};
+    ghost use Rattle.ascii.specs.Lines.{Line};
+
+    ghost Value = { Line };
+
+    ghost view = { λ received. record { body = received.bytes.now; ending = received.ending } };
+
+    ghost invariant = { λ received. received.is_text ≡ true → IsAscii received.bytes.now };
+}
+
+impl<'a> Received<'a> {
+    ghost use Rattle.std.specs.Prelude.{MatchOption};
+
+    /// Creates a text as a handler is given it: a line with this ending, or a part without one. A conversation makes
+    /// what it hands to its handler; this is for handlers that are asked without one.
+    ///
+    ///     Received::of_text(AsciiStr::literal("ab"), Ending::Lf).bytes() // [97, 98]
+    pub fn of_text(text: AsciiStr<'a>, ending: Ending) -> Received<'a>
+        ensures { result ≡ line_with text.entry ending }
+    {
+        Received {
+            bytes: text.as_bytes(),
+            ending,
+            is_text: true,
+        }
+    }
+
+    /// Creates a part of any bytes as a handler is given it.
+    ///
+    ///     Received::of_bytes(b"ÿ").text() // None
+    pub fn of_bytes(bytes: &'a [u8]) -> Received<'a>
+        ensures { result ≡ record { body = bytes.now; ending = Ending.Absent } }
+    {
+        Received {
+            bytes,
+            ending: Ending::Absent,
+            is_text: false,
+        }
+    }
+
+    /// Returns the text, or `None` if the bytes are not ASCII. What was asked for as text is always one.
+    ///
+    /// Constant time for what was asked for as text; otherwise the bytes are checked.
+    ///
+    ///     Received::of_bytes(b"ab").text() // Some("ab")
+    ///     Received::of_bytes(b"aÿ").text() // None
+    #[tactic(auto, using(ascii::proofs::TextLemmas::no_text))]
+    pub fn text(&self) -> Option<AsciiStr<'a>>
+        ensures { MatchOption result (¬ (IsAscii self.now.body))
+            (λ text. text_of text ≡ self.now.body) }
+    {
+        if self.is_text {
+            return Some(bytes::as_ascii_str_unchecked(self.bytes));
+        }
+        match bytes::as_ascii_str(self.bytes) {
+            Ok(text) => Some(text),
+            Err(_) => None,
+        }
+    }
+
+    /// Returns the bytes, without the ending of a line.
+    ///
+    ///     Received::of_bytes(b"aÿ").bytes() // [97, 255]
+    pub fn bytes(&self) -> &'a [u8]
+        ensures { result.now ≡ self.now.body }
+    {
+        self.bytes
+    }
+
+    /// Returns the ending of a line. A part has none, nor may the last line of the input.
+    ///
+    ///     Received::of_text(AsciiStr::literal("ab"), Ending::Lf).ending() // Lf
+    ///     Received::of_bytes(b"ab").ending() // Absent
+    pub fn ending(&self) -> Ending
+        ensures { result ≡ self.now.ending }
+    {
+        self.ending
+    }
+}
+
 /// What answers the lines of a channel.
 pub trait Handler {
     ghost use Rattle.std.specs.Prelude.{List, ℕ};
@@ -261,22 +374,21 @@ pub trait Handler {
     /// Answers a line without its ending, or a part, and returns what it asks for next. The last line of the input
     /// may have the ending `Absent`, as each part has. A part that is asked for has at least one byte.
     ///
-    /// In the examples, `Echo` is a handler that replies with the text that it is handed, and to an error with `no`.
+    /// In the examples, `Echo` is a handler that replies with the bytes that it is handed, and to an error with `no`.
     ///
     ///     let writer = LineWriter::new(alloc, Output::new(Vec::new(alloc)), 64)?;
     ///     let mut replies = Replies::new(writer, Ending::CrLf);
-    ///     Echo.answer(AsciiStr::literal("ab"), Ending::CrLf, &mut replies) // Line
+    ///     Echo.answer(Received::of_text(AsciiStr::literal("ab"), Ending::CrLf), &mut replies) // Line
     ///     let mut writer = replies.into_writer();
     ///     writer.flush() // Ok(())
     ///     writer.into_sink().into_inner() // [97, 98, 13, 10]
     fn answer<K: Sink, A: Allocator>(
         &mut self,
-        text: AsciiStr<'_>,
-        ending: Ending,
+        received: Received<'_>,
         replies: &mut Replies<K, A>,
     ) -> Next
         ensures answers { (said : List Reply) × Says replies.old said replies.new
-            × answers self.old (line_with text.entry ending) said result self.new }
+            × answers self.old received.entry said result self.new }
         ensures request { IsRequest result };
 
     /// Answers an error that came in place of what was asked for, and returns what it asks for next. After
@@ -507,18 +619,28 @@ pub fn serve<C: Channel, H: Handler, A: Allocator>(
     }
 }
 
-/// The line or part of these bytes.
-pub(crate) fn input_at(wanted: Wanted, start: u64, bytes: &[u8]) -> ReadLine<'_>
-    requires ascii { IsAscii bytes.now }
+/// The line or part of these bytes, as a handler is given it.
+pub(crate) fn received_at(wanted: Wanted, bytes: &[u8]) -> Received<'_>
+    requires may { MayHave wanted bytes.now }
     requires one { IsOne wanted bytes.now }
-    ensures { IsInputOf wanted bytes.now (read_line_in result).item }
+    ensures { IsInputOf wanted bytes.now result }
 {
     match wanted {
-        Wanted::Line(endings) | Wanted::Bytes(endings) => line_at(endings, start, bytes),
-        Wanted::Part(_) | Wanted::Until(_) => ReadLine {
-            start,
-            text: bytes::as_ascii_str_unchecked(bytes),
-            ending: Ending::Absent,
-        },
+        Wanted::Line(endings, Content::Text) => {
+            let line = line_at(endings, 0, bytes);
+            Received::of_text(line.text, line.ending)
+        }
+        Wanted::Line(endings, Content::Any) => {
+            let (bytes, ending) = split_ending(endings, bytes);
+            Received {
+                bytes,
+                ending,
+                is_text: false,
+            }
+        }
+        Wanted::Part(_, Content::Any) => Received::of_bytes(bytes),
+        Wanted::Part(_, Content::Text) | Wanted::Until(_) => {
+            Received::of_text(bytes::as_ascii_str_unchecked(bytes), Ending::Absent)
+        }
     }
 }

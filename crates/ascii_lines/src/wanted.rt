@@ -16,15 +16,22 @@ use ascii_devices::Source;
 use memchr::memchr;
 use std::alloc::Allocator;
 
+/// Which bytes may be in what is asked for.
+#[derive(Clone, Copy)]
+pub(crate) enum Content {
+    /// ASCII alone.
+    Text,
+    /// Any.
+    Any,
+}
+
 /// What a reader is asked for.
 #[derive(Clone, Copy)]
 pub(crate) enum Wanted {
     /// The next line by these endings.
-    Line(Endings),
-    /// The next line by these endings, which may have any bytes.
-    Bytes(Endings),
+    Line(Endings, Content),
     /// The next part, of this number of bytes.
-    Part(usize),
+    Part(usize, Content),
     /// The next text up to this code.
     Until(u8),
 }
@@ -127,9 +134,8 @@ fn find(wanted: Wanted, text: &[u8], searched: usize) -> Option<usize>
         (λ n. (n ≤ length text.now) × EndsAt wanted text.now n) }
 {
     match wanted {
-        Wanted::Line(endings) => find_end(endings, text, searched),
-        Wanted::Bytes(endings) => find_end(endings, text, searched),
-        Wanted::Part(count) => (count <= text.len()).then_some(count),
+        Wanted::Line(endings, _) => find_end(endings, text, searched),
+        Wanted::Part(count, _) => (count <= text.len()).then_some(count),
         Wanted::Until(code) => find_code(code, text, searched),
     }
 }
@@ -154,7 +160,7 @@ fn may_fit(wanted: Wanted, start: u64, size: usize) -> Result<(), LineError>
     ensures ok { OnOk result (MayFit wanted start size) }
     ensures err { IfErr result (IsUnfit wanted start size) }
 {
-    let Wanted::Part(count) = wanted else {
+    let Wanted::Part(count, _) = wanted else {
         return Ok(());
     };
     if count > size {
@@ -172,7 +178,7 @@ fn may_fit(wanted: Wanted, start: u64, size: usize) -> Result<(), LineError>
 fn end_of(wanted: Wanted, start: u64, bytes: &[u8], is_last: bool) -> Result<u64, LineError>
     ensures { IsEndOf wanted start bytes.now is_last result }
 {
-    if let Wanted::Part(_) = wanted
+    if let Wanted::Part(..) = wanted
         && is_last
     {
         return Err(LineError::Incomplete(bytes.len()));
@@ -192,9 +198,8 @@ fn find_lone_break(wanted: Wanted, bytes: &[u8]) -> Option<usize>
     ensures { FindsFault wanted bytes.now result }
 {
     match wanted {
-        Wanted::Line(endings) => lone_break(endings, bytes),
-        Wanted::Bytes(endings) => lone_break(endings, bytes),
-        Wanted::Part(_) | Wanted::Until(_) => None,
+        Wanted::Line(endings, _) => lone_break(endings, bytes),
+        Wanted::Part(..) | Wanted::Until(_) => None,
     }
 }
 

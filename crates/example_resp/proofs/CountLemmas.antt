@@ -5,8 +5,9 @@ use Rattle.std.proofs.Common.{take}
 use Rattle.std.proofs.lemmas.List.{map-append, take_more}
 use Rattle.std.specs.Map.{update}
 use Rattle.std.specs.Str.{bytes_eq}
-use Rattle.ascii.specs.StringState.{StringState}
-use Rattle.example_resp.specs.Store.{Contents, one_at, removed_count, string_texts, value_count}
+use Rattle.std.specs.declared.alloc.Global.{Global}
+use Rattle.std.specs.declared.vec.Vec.{Vec}
+use Rattle.example_resp.specs.Store.{Contents, one_at, removed_count, byte_lists, value_count}
 use Rattle.example_resp.specs.Store.{without}
 
 -- ---- lists of keys
@@ -32,14 +33,14 @@ removed_count-more contents [] key = omega (arith)
 removed_count-more contents (first ∷ keys) key =
     omega (arith, removed_count-more (update bytes_eq contents first None) keys key)
 
--- ---- strings
+-- ---- keys
 
--- the texts of one string more
-texts_more : (keys : List StringState) (i : ℕ) (key : StringState) → i < length keys
-    → string_texts (take (i + 1) keys) ≡ string_texts (take i keys) ++ (get_or keys i key).text ∷ []
-texts_more keys i key inside =
-    ap string_texts (take_more keys i key inside)
-    ∙ map-append (λ (s : StringState). s.text) (take i keys) (get_or keys i key ∷ [])
+-- the bytes of one key more
+lists_more : (keys : List (Vec ℕ Global)) (i : ℕ) (key : Vec ℕ Global) → i < length keys
+    → byte_lists (take (i + 1) keys) ≡ byte_lists (take i keys) ++ (get_or keys i key).items ∷ []
+lists_more keys i key inside =
+    ap byte_lists (take_more keys i key inside)
+    ∙ map-append (λ (s : Vec ℕ Global). s.items) (take i keys) (get_or keys i key ∷ [])
 
 -- how many values a test has found at a key
 pub one_found : (contents : Contents) (text key : List ℕ) (found is : Bool) → text ≡ key
@@ -48,37 +49,37 @@ one_found contents text key found is same says held =
     subst (λ (k : List ℕ). one_at contents k ≡ cond is 1 0) same
     (ap (λ b. cond b 1 0) (sym says ∙ held))
 
--- the count after one string more
-pub counts_more : (contents : Contents) (keys : List StringState) (i : ℕ) (key : StringState)
-    → i < length keys → value_count contents (string_texts (take (i + 1) keys))
-    ≡ value_count contents (string_texts (take i keys)) + one_at contents (get_or keys i key).text
+-- the count after one key more
+pub counts_more : (contents : Contents) (keys : List (Vec ℕ Global)) (i : ℕ) (key : Vec ℕ Global)
+    → i < length keys → value_count contents (byte_lists (take (i + 1) keys))
+    ≡ value_count contents (byte_lists (take i keys)) + one_at contents (get_or keys i key).items
 counts_more contents keys i key inside =
-    ap (value_count contents) (texts_more keys i key inside)
-    ∙ value_count-more contents (string_texts (take i keys)) (get_or keys i key).text
+    ap (value_count contents) (lists_more keys i key inside)
+    ∙ value_count-more contents (byte_lists (take i keys)) (get_or keys i key).items
 
--- the contents `held` after one string more is removed from them
-pub removes_more : (contents held new : Contents) (keys : List StringState) (i : ℕ)
-    (key : StringState) → i < length keys
-    → ((other : List ℕ) → held other ≡ without contents (string_texts (take i keys)) other)
-    → ((other : List ℕ) → new other ≡ update bytes_eq held (get_or keys i key).text None other)
-    → (other : List ℕ) → new other ≡ without contents (string_texts (take (i + 1) keys)) other
+-- the contents `held` after one key more is removed from them
+pub removes_more : (contents held new : Contents) (keys : List (Vec ℕ Global)) (i : ℕ)
+    (key : Vec ℕ Global) → i < length keys
+    → ((other : List ℕ) → held other ≡ without contents (byte_lists (take i keys)) other)
+    → ((other : List ℕ) → new other ≡ update bytes_eq held (get_or keys i key).items None other)
+    → (other : List ℕ) → new other ≡ without contents (byte_lists (take (i + 1) keys)) other
 removes_more contents held new keys i key inside before changes other =
-    let one = (get_or keys i key).text in
+    let one = (get_or keys i key).items in
     changes other ∙ (ap (cond (bytes_eq one other) None) (before other)
     ∙ sym (ap (λ (texts : List (List ℕ)). without contents texts other)
-    (texts_more keys i key inside)
-    ∙ ap (λ (f : Contents). f other) (without-more contents (string_texts (take i keys)) one)))
+    (lists_more keys i key inside)
+    ∙ ap (λ (f : Contents). f other) (without-more contents (byte_lists (take i keys)) one)))
 
--- the count of values that are gone after one string more
-pub removed_more : (contents held : Contents) (keys : List StringState) (i : ℕ)
-    (key : StringState) → i < length keys
-    → ((other : List ℕ) → held other ≡ without contents (string_texts (take i keys)) other)
-    → removed_count contents (string_texts (take (i + 1) keys))
-    ≡ removed_count contents (string_texts (take i keys)) + one_at held (get_or keys i key).text
+-- the count of values that are gone after one key more
+pub removed_more : (contents held : Contents) (keys : List (Vec ℕ Global)) (i : ℕ)
+    (key : Vec ℕ Global) → i < length keys
+    → ((other : List ℕ) → held other ≡ without contents (byte_lists (take i keys)) other)
+    → removed_count contents (byte_lists (take (i + 1) keys))
+    ≡ removed_count contents (byte_lists (take i keys)) + one_at held (get_or keys i key).items
 removed_more contents held keys i key inside before =
-    let one = (get_or keys i key).text in
-    ap (removed_count contents) (texts_more keys i key inside)
-    ∙ (removed_count-more contents (string_texts (take i keys)) one
+    let one = (get_or keys i key).items in
+    ap (removed_count contents) (lists_more keys i key inside)
+    ∙ (removed_count-more contents (byte_lists (take i keys)) one
     ∙ ap (λ (value : Option (List ℕ)).
-    removed_count contents (string_texts (take i keys)) + cond (is_some value) 1 0)
+    removed_count contents (byte_lists (take i keys)) + cond (is_some value) 1 0)
     (sym (before one)))

@@ -1,11 +1,11 @@
 -- What is said in reply to a command that was carried out.
 use Rattle.std.proofs.Common.{◌≡◌, ◌∙◌, ℕ, List, [], ◌∷◌, Err, Ok, Some, ap, refl}
 use Rattle.std.specs.Prelude.{slice_get}
-use Rattle.ascii.specs.StringState.{StringState}
-use Rattle.ascii.specs.View.{text_of}
+use Rattle.std.specs.declared.alloc.Global.{Global}
+use Rattle.std.specs.declared.vec.Vec.{Vec}
 use Rattle.example_resp.specs.Commands.{IsCallFault, Says, Tells, after, reply, value_reply}
 use Rattle.example_resp.specs.Session.{Answer, CarriesOut, Follows, Rejects, reply_lines, value_at}
-use Rattle.example_resp.specs.Store.{Contents, string_texts}
+use Rattle.example_resp.specs.Store.{Contents, byte_lists}
 use Rattle.example_resp.specs.declared.commands.Command.{Command}
 use Rattle.example_resp.specs.declared.commands.Command.TheVariants as command
 use Rattle.example_resp.specs.declared.commands.Rejection.{Rejection}
@@ -27,8 +27,8 @@ told_lines held new words (command.SetValue key value) told says tells contents 
     ap (reply_lines new words) tells
 told_lines held new words (command.GetValue key) told (verb, arguments, (name, is, named), parts)
     tells contents = ap (reply_lines new words) tells
-    ∙ ap value_reply (ap (value_at new) (second words name (text_of key) arguments is parts.1)
-    ∙ contents (text_of key))
+    ∙ ap value_reply (ap (value_at new) (second words name key.now arguments is parts.1)
+    ∙ contents key.now)
 told_lines held new words (command.DeleteValues keys) told says tells contents =
     ap (reply_lines new words) tells
 told_lines held new words (command.CountValues keys) told says tells contents =
@@ -37,20 +37,20 @@ told_lines held new words command.Reply told says tells contents =
     ap (reply_lines new words) tells
 told_lines held new words (command.Echo text) told (verb, arguments, (name, is, named), parts)
     tells contents = ap (reply_lines new words) tells
-    ∙ ap value_reply (second words name (text_of text) arguments is parts.1)
+    ∙ ap value_reply (second words name text.now arguments is parts.1)
 told_lines held new words command.Leave told says tells contents =
     ap (reply_lines new words) tells
 
 -- words that do not say a command are answered by their rejection
-pub rejected : (held : Contents) (words : List StringState) (fault : Rejection) (answer : Answer)
-    → ¬ (words ≡ []) → IsCallFault (string_texts words) fault → Rejects held fault answer
-    → CarriesOut held (string_texts words) answer
+pub rejected : (held : Contents) (words : List (Vec ℕ Global)) (fault : Rejection) (answer : Answer)
+    → ¬ (words ≡ []) → IsCallFault (byte_lists words) fault → Rejects held fault answer
+    → CarriesOut held (byte_lists words) answer
 rejected held [] fault answer some is rejects = absurd (some refl)
 rejected held (word ∷ words) fault answer some is rejects = (Err fault, is, rejects)
 
 -- words that say a command are carried out if it is followed
-pub carried : (held : Contents) (words : List StringState) (command : Command) (answer : Answer)
-    → ¬ (words ≡ []) → Says (string_texts words) command → Follows held command answer
-    → CarriesOut held (string_texts words) answer
+pub carried : (held : Contents) (words : List (Vec ℕ Global)) (command : Command) (answer : Answer)
+    → ¬ (words ≡ []) → Says (byte_lists words) command → Follows held command answer
+    → CarriesOut held (byte_lists words) answer
 carried held [] command answer some says follows = absurd (some refl)
 carried held (word ∷ words) command answer some says follows = (Ok command, says, follows)

@@ -1,17 +1,10 @@
 -- Words of a line, piece by piece and word by word.
 use Rattle.std.proofs.Common.{◌≡◌, ◌≢◌, ◌<◌, ◌≤◌, ℕ, List, [], ◌∷◌, ◌++◌, ap, arith}
-use Rattle.std.proofs.Common.{inl, inr, length, length-append, refl, subst, sym, Err, Ok, Result}
-use Rattle.std.specs.Prelude.{IfSome, IsErrAnd, MatchResult, slice_get}
+use Rattle.std.proofs.Common.{inl, inr, length, length-append, refl, subst}
+use Rattle.std.specs.Prelude.{IfSome, slice_get}
 use Rattle.ascii.specs.Class.{IsWhitespace}
 use Rattle.ascii.specs.Trim.{TrimsStart}
-use Rattle.example_resp.specs.Words.{HasPieces, IsGap, IsPiece, IsPiecesFault, IsWord, IsWordFault}
-use Rattle.example_resp.specs.Words.{Opens}
-use Rattle.example_resp.specs.Words.{OpensQuotes, TakesWord, TakesWords}
-use Rattle.example_resp.specs.declared.commands.Rejection.{Rejection}
-use Rattle.example_resp.specs.declared.commands.Rejection.TheVariants.{BadCount, BadEnding, BadInput}
-use Rattle.example_resp.specs.declared.commands.Rejection.TheVariants.{BadLength, Foreign, NoLength}
-use Rattle.example_resp.specs.declared.commands.Rejection.TheVariants.{BadQuotes, NoMemory}
-use Rattle.example_resp.specs.declared.commands.Rejection.TheVariants.{UnknownCommand, WrongArguments}
+use Rattle.example_resp.specs.Words.{HasPieces, IsGap, IsPiece, IsWord, TakesWord, TakesWords}
 use Rattle.example_resp.specs.declared.words.Quotes.{Quotes}
 use Rattle.example_resp.specs.declared.words.Quotes.TheVariants.{Bare, Double, Single}
 
@@ -93,43 +86,3 @@ trimmed_shorter after rest trims = omega (
   ap length trims.span.joined,
   length-append trims.cut rest,
 )
-
--- ---- what is in quotes and cannot be kept
-
-module _ (quotes : Quotes) (text front rest inside : List ℕ)
-    (before : HasPieces Bare text front rest) (opens : Opens quotes rest inside) where
-  opening : OpensQuotes quotes text front opens.0 inside
-  opening = record {
-    is_mark = opens.1;
-    before = subst (λ (t : List ℕ). HasPieces Bare text front t) opens.2 before;
-  }
-
-  pub fault_inside : (fault : Rejection) → IsPiecesFault quotes inside fault
-      → IsWordFault text fault
-  fault_inside BadInput (value, left, code, others, holds, piece, other) = record {
-    quotes = quotes;
-    inside = inside;
-    value = value;
-    rest = left;
-    code = code;
-    others = others;
-    begins = inr (front, opens.0, opening);
-    holds = holds;
-    piece = piece;
-    other = other;
-  }
-  fault_inside NoMemory fault = tt
-  fault_inside BadQuotes fault = absurd fault
-  fault_inside BadCount fault = absurd fault
-  fault_inside BadLength fault = absurd fault
-  fault_inside NoLength fault = absurd fault
-  fault_inside Foreign fault = absurd fault
-  fault_inside BadEnding fault = absurd fault
-  fault_inside UnknownCommand fault = absurd fault
-  fault_inside (WrongArguments verb) fault = absurd fault
-
--- a call returns the error of another
-pub fails_with : {T E : Type 0} (result : Result T E) (fault : E) (P : T → Type 0)
-    (Q : E → Type 0) → IsErrAnd result (λ e. e ≡ fault) → Q fault → MatchResult result P Q
-fails_with (Ok _) fault P Q is holds = absurd is
-fails_with (Err e) fault P Q is holds = subst Q (sym is) holds

@@ -5,8 +5,7 @@ use Rattle.std.specs.Prelude.{MatchResult, decimal, length, map, ⊤}
 use Rattle.std.specs.Str.{bytes_eq}
 use Rattle.std.specs.declared.result.Result.{Result}
 use Rattle.ascii.specs.Case.{lower_image}
-use Rattle.ascii.specs.View.{text_of}
-use Rattle.example_resp.specs.Store.{Contents, removed_count, string_texts, value_count, without}
+use Rattle.example_resp.specs.Store.{Contents, removed_count, byte_lists, value_count, without}
 use Rattle.example_resp.specs.declared.commands.Command.{Command}
 use Rattle.example_resp.specs.declared.commands.Command.TheVariants.{SetValue, GetValue}
 use Rattle.example_resp.specs.declared.commands.Command.TheVariants.{CountValues, DeleteValues, Echo, Leave}
@@ -56,15 +55,15 @@ IsForeign word = (map lower_image word ≡ codes "post") ⊎ (map lower_image wo
 -- `command` is the verb `verb` with the arguments `arguments`
 abbrev pub HasParts : Verb → List (List ℕ) → Command → Type 0
 HasParts verb arguments (SetValue key value) =
-    (verb ≡ Set) × (arguments ≡ text_of key ∷ text_of value ∷ [])
-HasParts verb arguments (GetValue key) = (verb ≡ Get) × (arguments ≡ text_of key ∷ [])
+    (verb ≡ Set) × (arguments ≡ key.now ∷ value.now ∷ [])
+HasParts verb arguments (GetValue key) = (verb ≡ Get) × (arguments ≡ key.now ∷ [])
 HasParts verb arguments (DeleteValues keys) =
-    (verb ≡ Del) × (arguments ≡ string_texts keys.now) × (arguments ≢ [])
+    (verb ≡ Del) × (arguments ≡ byte_lists keys.now) × (arguments ≢ [])
 HasParts verb arguments (CountValues keys) =
-    (verb ≡ Exists) × (arguments ≡ string_texts keys.now) × (arguments ≢ [])
+    (verb ≡ Exists) × (arguments ≡ byte_lists keys.now) × (arguments ≢ [])
 HasParts verb arguments Reply = (verb ≡ Ping) × (arguments ≡ [])
 HasParts verb arguments (Echo text) =
-    ((verb ≡ Ping) ⊎ (verb ≡ verbs.Echo)) × (arguments ≡ text_of text ∷ [])
+    ((verb ≡ Ping) ⊎ (verb ≡ verbs.Echo)) × (arguments ≡ text.now ∷ [])
 HasParts verb arguments Leave = verb ≡ Quit
 
 -- why `verb` with the arguments `arguments` is not a command: it does not take their number
@@ -114,11 +113,11 @@ count_reply count = (codes ":" ++ decimal count) ∷ []
 -- the reply of a store with these contents to a command
 abbrev pub reply : Contents → Command → List (List ℕ)
 reply contents (SetValue key value) = codes "+OK" ∷ []
-reply contents (GetValue key) = value_reply (contents (text_of key))
-reply contents (DeleteValues keys) = count_reply (removed_count contents (string_texts keys.now))
-reply contents (CountValues keys) = count_reply (value_count contents (string_texts keys.now))
+reply contents (GetValue key) = value_reply (contents key.now)
+reply contents (DeleteValues keys) = count_reply (removed_count contents (byte_lists keys.now))
+reply contents (CountValues keys) = count_reply (value_count contents (byte_lists keys.now))
 reply contents Reply = codes "+PONG" ∷ []
-reply contents (Echo text) = value_reply (Some (text_of text))
+reply contents (Echo text) = value_reply (Some text.now)
 reply contents Leave = codes "+OK" ∷ []
 
 -- what is to be said in reply to a command, of a store with these contents
@@ -126,17 +125,17 @@ abbrev pub Tells : Contents → Command → replies.Reply → Type 0
 Tells contents (SetValue key value) told = told ≡ said.Done
 Tells contents (GetValue key) told = told ≡ said.Value
 Tells contents (DeleteValues keys) told =
-    told ≡ said.Count (removed_count contents (string_texts keys.now))
+    told ≡ said.Count (removed_count contents (byte_lists keys.now))
 Tells contents (CountValues keys) told =
-    told ≡ said.Count (value_count contents (string_texts keys.now))
+    told ≡ said.Count (value_count contents (byte_lists keys.now))
 Tells contents Reply told = told ≡ said.Pong
 Tells contents (Echo text) told = told ≡ said.Text
 Tells contents Leave told = told ≡ said.Done
 
 -- the contents of a store after a command
 abbrev pub after : Contents → Command → Contents
-after contents (SetValue key value) = update bytes_eq contents (text_of key) (Some (text_of value))
-after contents (DeleteValues keys) = without contents (string_texts keys.now)
+after contents (SetValue key value) = update bytes_eq contents key.now (Some value.now)
+after contents (DeleteValues keys) = without contents (byte_lists keys.now)
 after contents other = contents
 
 -- the line that says why a request was rejected

@@ -57,7 +57,7 @@ Opens held line Absent answer =
 abbrev pub AwaitsWord : Contents → ℕ → List (List ℕ) → Length → Answer → Type 0
 AwaitsWord held count words (Known size) answer =
     (size ≡ 0 → Awaits held (words ++ [] ∷ []) (stage.End count) next.Line answer)
-    × (0 < size → Awaits held words (stage.Word count) (next.Part size) answer)
+    × (0 < size → Awaits held words (stage.Word count) (next.Bytes size) answer)
 AwaitsWord held count words Bad answer = Rejects held BadLength answer
 AwaitsWord held count words Absent answer = Rejects held NoLength answer
 

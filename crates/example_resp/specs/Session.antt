@@ -5,7 +5,7 @@ use Rattle.ascii_lines.specs.declared.serving.Next.{Next}
 use Rattle.ascii_lines.specs.declared.serving.Next.TheVariants as next
 use Rattle.example_resp.specs.Commands.{ReadsCommand, after, count_reply, error_line, reply}
 use Rattle.example_resp.specs.Commands.{value_reply}
-use Rattle.example_resp.specs.Store.{Contents, contents_of, string_texts}
+use Rattle.example_resp.specs.Store.{Contents, contents_of, byte_lists}
 use Rattle.example_resp.specs.declared.commands.Rejection.TheVariants.{UnknownCommand, WrongArguments}
 use Rattle.example_resp.specs.declared.commands.Command.{Command}
 use Rattle.example_resp.specs.declared.commands.Rejection.{Rejection}
@@ -35,7 +35,7 @@ pub record Answer : Type 0 where
 abbrev pub state_of : Session → State
 state_of session = record {
   contents = contents_of session.store;
-  words = string_texts session.words.items;
+  words = byte_lists session.words.items;
   stage = session.stage;
 }
 
@@ -57,7 +57,7 @@ reply_lines held words (Fault rejection) = error_line rejection ∷ []
 -- the answer that is planned, and leaves `session`
 abbrev pub answer_of : Plan → Session → Answer
 answer_of plan session = record {
-  replies = reply_lines (contents_of session.store) (string_texts session.words.items) plan.reply;
+  replies = reply_lines (contents_of session.store) (byte_lists session.words.items) plan.reply;
   next = plan.next;
   state = state_of session;
 }

@@ -1,16 +1,19 @@
 -- What a store holds: a function from keys to values. `update` is std's word for a function that is
 -- changed at one key.
+use Rattle.std.specs.BTreeMap.{get_by}
+use Rattle.std.specs.Cmp.Lexicographic.{slice_cmp}
 use Rattle.std.specs.Map.{update}
 use Rattle.std.specs.Option.{option_map}
+use Rattle.std.specs.Ordering.{nat_cmp}
 use Rattle.std.specs.Prelude.{◌≡◌, ◌+◌, ℕ, List, [], ◌∷◌, None, Option, if◌then◌else◌, is_some, map}
 use Rattle.std.specs.Str.{bytes_eq}
-use Rattle.ascii_keys.specs.Maps.{value_at}
-use Rattle.ascii.specs.StringState.{StringState}
+use Rattle.std.specs.declared.alloc.Global.{Global}
+use Rattle.std.specs.declared.vec.Vec.{Vec}
 use Rattle.example_resp.specs.declared.store.Store.{Store}
 
--- the texts of strings
-abbrev pub string_texts : List StringState → List (List ℕ)
-string_texts strings = map (λ string. string.text) strings
+-- keys, values and words as lists of bytes
+abbrev pub byte_lists : List (Vec ℕ Global) → List (List ℕ)
+byte_lists words = map (λ word. word.items) words
 
 -- the contents of a store: the value at a key, or `None` if there is none
 abbrev pub Contents : Type 0
@@ -18,7 +21,8 @@ Contents = List ℕ → Option (List ℕ)
 
 -- the contents of `store`
 abbrev pub contents_of : Store → Contents
-contents_of store key = option_map (λ value. value.text) (value_at store.entries key)
+contents_of store key =
+    option_map (λ value. value.items) (get_by (λ k. slice_cmp nat_cmp key k.items) store.entries)
 
 -- the contents `new` are `old`, except that they have `value` at the key `key`
 abbrev pub Changes : Contents → List ℕ → Option (List ℕ) → Contents → Type 0

@@ -1,14 +1,12 @@
 -- The words of a line, as Redis splits it: a word is characters as they are, and then maybe
 -- characters in quotes.
 use Rattle.std.specs.Prelude.{if◌then◌else◌, ◌≡◌, ◌≢◌, ◌⊎◌, ◌+◌, ◌*◌, ◌<◌, ℕ, List, [], ◌∷◌, ◌++◌, ⊤}
-use Rattle.std.specs.Prelude.{Err, IfSome, Ok, Some, nat_eq, slice_get}
-use Rattle.std.specs.declared.result.Result.{Result}
+use Rattle.std.specs.Prelude.{IfSome, Some, nat_eq, slice_get}
 use Rattle.ascii.specs.View.{text_of}
-use Rattle.ascii.specs.declared.ascii_str.AsciiStr.{AsciiStr}
 use Rattle.ascii.specs.Trim.{TrimsStart}
 use Rattle.ascii.specs.Class.{IsWhitespace, digit_value}
 use Rattle.example_resp.specs.declared.commands.Rejection.{Rejection}
-use Rattle.example_resp.specs.declared.commands.Rejection.TheVariants.{BadInput, BadQuotes, NoMemory}
+use Rattle.example_resp.specs.declared.commands.Rejection.TheVariants.{BadQuotes, NoMemory}
 use Rattle.example_resp.specs.declared.words.Piece.{Piece}
 use Rattle.example_resp.specs.declared.words.Piece.TheVariants.{Code, End}
 use Rattle.example_resp.specs.declared.words.Quotes.{Quotes}
@@ -112,24 +110,9 @@ pub record IsUnbalanced (text : List ℕ) : Type 0 where
   pub bad : (rest ≡ []) ⊎ ((after : List ℕ) × (rest ≡ mark ∷ after)
       × ¬ (IfSome (slice_get after 0) IsWhitespace))
 
--- in a word, in quotes or not, some characters write a code above 127
-pub record IsNotAscii (text : List ℕ) : Type 0 where
-  pub quotes : Quotes
-  pub inside : List ℕ
-  pub value : List ℕ
-  pub rest : List ℕ
-  pub code : ℕ
-  pub others : List ℕ
-  pub begins : ((quotes ≡ Bare) × (inside ≡ text))
-      ⊎ ((front : List ℕ) × (mark : ℕ) × OpensQuotes quotes text front mark inside)
-  pub holds : HasPieces quotes inside value rest
-  pub piece : IsPiece quotes rest code others
-  pub other : 127 < code
-
 -- why `text` does not begin with a word that can be kept
 abbrev pub IsWordFault : List ℕ → Rejection → Type 0
 IsWordFault text BadQuotes = IsUnbalanced text
-IsWordFault text BadInput = IsNotAscii text
 IsWordFault text NoMemory = ⊤
 IsWordFault text fault = ⊥
 
@@ -177,17 +160,7 @@ abbrev pub FindsPiece : Quotes → List ℕ → Piece → Type 0
 FindsPiece quotes text (Code code others) = IsPiece quotes text code (text_of others)
 FindsPiece quotes text End = EndsPieces quotes text
 
--- why what is between these quotes cannot be kept
-abbrev pub IsPiecesFault : Quotes → List ℕ → Rejection → Type 0
-IsPiecesFault quotes text BadInput = (value : List ℕ) × (rest : List ℕ) × (code : ℕ)
-    × (others : List ℕ) × HasPieces quotes text value rest × IsPiece quotes rest code others
-    × (127 < code)
-IsPiecesFault quotes text NoMemory = ⊤
-IsPiecesFault quotes text fault = ⊥
-
--- what is between these quotes was appended to `old`
-abbrev pub TakesPieces
-    : Quotes → List ℕ → List ℕ → List ℕ → Result AsciiStr Rejection → Type 0
-TakesPieces quotes text old new (Ok rest) = (value : List ℕ) × (new ≡ old ++ value)
-    × HasPieces quotes text value (text_of rest) × EndsPieces quotes (text_of rest)
-TakesPieces quotes text old new (Err fault) = IsPiecesFault quotes text fault
+-- what is between these quotes was appended to `old`, and `rest` comes after it
+abbrev pub TakesPieces : Quotes → List ℕ → List ℕ → List ℕ → List ℕ → Type 0
+TakesPieces quotes text old new rest = (value : List ℕ) × (new ≡ old ++ value)
+    × HasPieces quotes text value rest × EndsPieces quotes rest

@@ -1,12 +1,11 @@
 //! The commands of a store, and the words that say them.
 
 ghost use Rattle.std.specs.Prelude.{◌↔◌, IsTrue, MatchOption, MatchResult};
-ghost use Rattle.ascii.specs.View.{text_of};
 ghost use Rattle.example_resp.specs.Commands.{HasParts, IsForeign, IsNameOf, IsPartsFault};
 ghost use Rattle.example_resp.specs.Commands.{ReadsCommand};
-ghost use Rattle.example_resp.specs.Store.{string_texts};
+ghost use Rattle.example_resp.specs.Store.{byte_lists};
 
-use ascii::{AsciiStr, AsciiString};
+use ascii::kernels::eq_ignore_case;
 use std::alloc::{AllocError, AllocFailed};
 
 /// What a client may ask for.
@@ -22,7 +21,7 @@ pub enum Verb {
     Exists,
     /// Asks for a reply.
     Ping,
-    /// Asks for a text.
+    /// Asks for bytes.
     Echo,
     /// Ends the session.
     Quit,
@@ -32,28 +31,17 @@ pub enum Verb {
 #[derive(Clone, Copy, PartialEq, Eq, Debug)]
 pub enum Command<'a> {
     /// Sets the value at the key.
-    SetValue {
-        key: AsciiStr<'a>,
-        value: AsciiStr<'a>,
-    },
+    SetValue { key: &'a [u8], value: &'a [u8] },
     /// Asks for the value at the key.
-    GetValue {
-        key: AsciiStr<'a>,
-    },
+    GetValue { key: &'a [u8] },
     /// Removes the values at the keys.
-    DeleteValues {
-        keys: &'a [AsciiString],
-    },
+    DeleteValues { keys: &'a [Vec<u8>] },
     /// Asks at how many of the keys there is a value.
-    CountValues {
-        keys: &'a [AsciiString],
-    },
+    CountValues { keys: &'a [Vec<u8>] },
     /// Asks for a reply.
     Reply,
-    /// Asks for the text.
-    Echo {
-        text: AsciiStr<'a>,
-    },
+    /// Asks for the bytes.
+    Echo { text: &'a [u8] },
     /// Ends the session.
     Leave,
 }
@@ -77,7 +65,7 @@ pub enum Rejection {
     BadEnding,
     /// A line has quotes that are not closed, or are closed before something other than white space.
     BadQuotes,
-    /// The input is not ASCII, has a line that is too long or a CR or LF by itself, or ends too early.
+    /// A line is not ASCII, is too long or has a CR or LF by itself, or the input ends too early.
     BadInput,
     /// An allocation failed.
     NoMemory,
@@ -106,13 +94,13 @@ impl<T: Drop> From<AllocFailed<T>> for Rejection {
 }
 
 /// Returns the command that the words say, or why they do not say one.
-pub fn read_command<'a>(words: &'a [AsciiString]) -> Result<Command<'a>, Rejection>
-    ensures { ReadsCommand (string_texts words.now) result }
+pub fn read_command<'a>(words: &'a [Vec<u8>]) -> Result<Command<'a>, Rejection>
+    ensures { ReadsCommand (byte_lists words.now) result }
 {
     let Some((name, arguments)) = words.split_first() else {
         return Err(Rejection::UnknownCommand);
     };
-    let name = name.as_ascii_str();
+    let name = name.as_slice();
     match read_verb(name) {
         Some(verb) => command_of(verb, arguments),
         None if is_foreign(name) => Err(Rejection::Foreign),
@@ -121,31 +109,30 @@ pub fn read_command<'a>(words: &'a [AsciiString]) -> Result<Command<'a>, Rejecti
 }
 
 /// Returns `true` if a line of a request of HTTP may begin with this word.
-fn is_foreign(word: AsciiStr<'_>) -> bool
-    ensures { IsTrue result ↔ IsForeign (text_of word.entry) }
+fn is_foreign(word: &[u8]) -> bool
+    ensures { IsTrue result ↔ IsForeign word.now }
 {
-    word.eq_ignore_ascii_case(AsciiStr::literal("POST"))
-        || word.eq_ignore_ascii_case(AsciiStr::literal("Host:"))
+    eq_ignore_case(word, b"POST") || eq_ignore_case(word, b"Host:")
 }
 
 /// Returns the verb with this name, ignoring ASCII case, or `None` if there is none.
-fn read_verb(name: AsciiStr<'_>) -> Option<Verb>
-    ensures { MatchOption result ((verb : Verb) → ¬ (IsNameOf verb (text_of name.entry)))
-        (λ verb. IsNameOf verb (text_of name.entry)) }
+fn read_verb(name: &[u8]) -> Option<Verb>
+    ensures { MatchOption result ((verb : Verb) → ¬ (IsNameOf verb name.now))
+        (λ verb. IsNameOf verb name.now) }
 {
-    if name.eq_ignore_ascii_case(AsciiStr::literal("SET")) {
+    if eq_ignore_case(name, b"SET") {
         Some(Verb::Set)
-    } else if name.eq_ignore_ascii_case(AsciiStr::literal("GET")) {
+    } else if eq_ignore_case(name, b"GET") {
         Some(Verb::Get)
-    } else if name.eq_ignore_ascii_case(AsciiStr::literal("DEL")) {
+    } else if eq_ignore_case(name, b"DEL") {
         Some(Verb::Del)
-    } else if name.eq_ignore_ascii_case(AsciiStr::literal("EXISTS")) {
+    } else if eq_ignore_case(name, b"EXISTS") {
         Some(Verb::Exists)
-    } else if name.eq_ignore_ascii_case(AsciiStr::literal("PING")) {
+    } else if eq_ignore_case(name, b"PING") {
         Some(Verb::Ping)
-    } else if name.eq_ignore_ascii_case(AsciiStr::literal("ECHO")) {
+    } else if eq_ignore_case(name, b"ECHO") {
         Some(Verb::Echo)
-    } else if name.eq_ignore_ascii_case(AsciiStr::literal("QUIT")) {
+    } else if eq_ignore_case(name, b"QUIT") {
         Some(Verb::Quit)
     } else {
         None
@@ -153,23 +140,23 @@ fn read_verb(name: AsciiStr<'_>) -> Option<Verb>
 }
 
 /// Returns the command of a verb with these arguments, or why there is none.
-fn command_of<'a>(verb: Verb, arguments: &'a [AsciiString]) -> Result<Command<'a>, Rejection>
-    ensures { MatchResult result (HasParts verb (string_texts arguments.now))
-        (IsPartsFault verb (string_texts arguments.now)) }
+fn command_of<'a>(verb: Verb, arguments: &'a [Vec<u8>]) -> Result<Command<'a>, Rejection>
+    ensures { MatchResult result (HasParts verb (byte_lists arguments.now))
+        (IsPartsFault verb (byte_lists arguments.now)) }
 {
     match (verb, arguments) {
         (Verb::Set, [key, value]) => Ok(Command::SetValue {
-            key: key.as_ascii_str(),
-            value: value.as_ascii_str(),
+            key: key.as_slice(),
+            value: value.as_slice(),
         }),
         (Verb::Get, [key]) => Ok(Command::GetValue {
-            key: key.as_ascii_str(),
+            key: key.as_slice(),
         }),
         (Verb::Del, [_, ..]) => Ok(Command::DeleteValues { keys: arguments }),
         (Verb::Exists, [_, ..]) => Ok(Command::CountValues { keys: arguments }),
         (Verb::Ping, []) => Ok(Command::Reply),
         (Verb::Ping | Verb::Echo, [text]) => Ok(Command::Echo {
-            text: text.as_ascii_str(),
+            text: text.as_slice(),
         }),
         (Verb::Quit, _) => Ok(Command::Leave),
         _ => Err(Rejection::WrongArguments(verb)),

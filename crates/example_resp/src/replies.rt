@@ -1,6 +1,6 @@
 //! The replies of a store to commands.
 
-ghost use Rattle.std.specs.Option.{option_map};
+ghost use Rattle.std.specs.Option.{option_copied};
 ghost use Rattle.std.specs.Prelude.{◌≡◌, IfOk, List, OnOk, map, ℕ};
 ghost use Rattle.ascii.specs.View.{text_of};
 ghost use Rattle.ascii_lines.specs.Replies.{Says, line_reply};
@@ -91,14 +91,14 @@ fn wrong_arguments(verb: Verb) -> AsciiStr<'static>
 }
 
 /// Writes the reply to a value, or to none. Does not allocate.
-pub fn say_value<K: Sink, A: Allocator>(value: Option<AsciiStr<'_>>, replies: &mut Replies<K, A>)
-    ensures { Says replies.old (map line_reply (value_reply (option_map text_of value.entry)))
+pub fn say_value<K: Sink, A: Allocator>(value: Option<&[u8]>, replies: &mut Replies<K, A>)
+    ensures { Says replies.old (map line_reply (value_reply (option_copied value.entry)))
         replies.new }
 {
     match value {
         Some(value) => {
             replies.number_line(AsciiStr::literal("$"), value.len());
-            replies.text(value);
+            replies.bytes(value);
         }
         None => replies.fixed_line(AsciiStr::literal("$-1")),
     }

@@ -1,10 +1,10 @@
 //! A session with one client: the lines and words that it sends, and the replies.
 
-ghost use Rattle.std.specs.Option.{option_map};
-ghost use Rattle.std.specs.Prelude.{◌↔◌, ◌≡◌, IfOk, IsTrue, map, slice_get};
+ghost use Rattle.std.specs.Option.{option_copied};
+ghost use Rattle.std.specs.Prelude.{◌↔◌, ◌≡◌, ◌⊎◌, IfErr, IfOk, IsTrue, map, slice_get};
 ghost use Rattle.ascii.specs.View.{text_of};
 ghost use Rattle.ascii_lines.specs.Replies.{IsRequest, Says, line_reply};
-ghost use Rattle.example_resp.specs.Store.{string_texts};
+ghost use Rattle.example_resp.specs.Store.{byte_lists};
 ghost use Rattle.example_resp.specs.Session.{asked_after, next_after, reply_lines, value_at};
 ghost use Rattle.example_resp.specs.Requests.{IsLength, IsShortest};
 
@@ -12,9 +12,9 @@ use crate::commands::{Command, Rejection, read_command};
 use crate::replies::{Reply, follow, line_of, say_value};
 use crate::store::Store;
 use crate::words::split_words;
-use ascii::{AsciiStr, AsciiString};
+use ascii::AsciiStr;
 use ascii_formats::AsciiStrExt;
-use ascii_lines::{Ending, Handler, LineError, Next, Replies, Sink};
+use ascii_lines::{Ending, Handler, LineError, Next, Received, Replies, Sink};
 use std::alloc::{AllocError, Allocator, Global};
 
 /// The largest number of words of an array.
@@ -59,7 +59,7 @@ pub struct Plan {
 pub struct Session {
     alloc: Global,
     store: Store,
-    words: Vec<AsciiString>,
+    words: Vec<Vec<u8>>,
     stage: Stage,
 }
 
@@ -116,13 +116,13 @@ impl Session {
     {
         match read_length(line, AsciiStr::literal("$"), MOST_BYTES) {
             Length::Known(0) => {
-                self.words.push(AsciiString::new(self.alloc))?;
+                self.words.push(Vec::new(self.alloc))?;
                 self.stage = Stage::End(count);
                 Ok(silent(Next::Line))
             }
             Length::Known(size) => {
                 self.stage = Stage::Word(count);
-                Ok(silent(Next::Part(size)))
+                Ok(silent(Next::Bytes(size)))
             }
             Length::Bad => Ok(self.reject(Rejection::BadLength)),
             Length::Absent => Ok(self.reject(Rejection::NoLength)),
@@ -130,12 +130,12 @@ impl Session {
     }
 
     /// Keeps a word of an array.
-    fn plan_word(&mut self, count: usize, word: AsciiStr<'_>) -> Result<Plan, AllocError>
+    fn plan_word(&mut self, count: usize, word: &[u8]) -> Result<Plan, AllocError>
         ensures answers { IfOk result (λ plan. AnswersWord (state_of self.old) count
-            (text_of word.entry) (answer_of plan self.new)) }
+            word.now (answer_of plan self.new)) }
         ensures request { IfOk result (λ plan. IsRequest plan.next) }
     {
-        self.words.push(word.to_ascii_string(self.alloc)?)?;
+        self.words.push(Vec::from_slice(self.alloc, word)?)?;
         self.stage = Stage::End(count);
         Ok(silent(Next::Line))
     }
@@ -195,48 +195,47 @@ impl Session {
         rejected(rejection)
     }
 
-    /// Takes a line or a word, and plans the answer; or returns an error if an allocation fails.
-    fn respond(&mut self, text: AsciiStr<'_>) -> Result<Plan, AllocError>
-        ensures answers { IfOk result (λ plan. Answers (state_of self.old) (text_of text.entry)
+    /// Takes a line or a word, and plans the answer; or returns an error if an allocation fails or a line is cut off.
+    fn respond(&mut self, received: Received<'_>) -> Result<Plan, Rejection>
+        ensures answers { IfOk result (λ plan. Answers (state_of self.old) received.entry.body
             (answer_of plan self.new)) }
         ensures request { IfOk result (λ plan. IsRequest plan.next) }
+        ensures err { IfErr result (λ rejection.
+            (rejection ≡ Rejection.NoMemory) ⊎ (rejection ≡ Rejection.BadInput)) }
     {
         match self.stage {
-            Stage::Request => self.plan_request(text),
-            Stage::Length(count) => self.plan_length(count, text),
-            Stage::Word(count) => self.plan_word(count, text),
-            Stage::End(count) => self.plan_end(count, text),
+            Stage::Request => Ok(self.plan_request(whole_line(&received)?)?),
+            Stage::Length(count) => Ok(self.plan_length(count, whole_line(&received)?)?),
+            Stage::Word(count) => Ok(self.plan_word(count, received.bytes())?),
+            Stage::End(count) => Ok(self.plan_end(count, whole_line(&received)?)?),
         }
     }
 
     /// Takes a line or a word, and plans the answer. The session gives up if an allocation fails, or if
     /// the input ends in a line.
-    fn plan(&mut self, text: AsciiStr<'_>, ending: Ending) -> Plan
-        ensures answers { Plans self.old (text_of text.entry) result self.new }
+    fn plan(&mut self, received: Received<'_>) -> Plan
+        ensures answers { Plans self.old received.entry.body result self.new }
         ensures request { IsRequest result.next }
     {
-        if ending == Ending::Absent && !matches!(self.stage, Stage::Word(_)) {
-            return rejected(Rejection::BadInput);
-        }
-        match self.respond(text) {
+        match self.respond(received) {
             Ok(plan) => plan,
-            Err(AllocError) => rejected(Rejection::NoMemory),
+            Err(rejection) => rejected(rejection),
         }
     }
 
     /// Returns the second word of the request.
-    fn second_word(&self) -> Option<AsciiStr<'_>>
-        ensures { option_map text_of result ≡ slice_get (state_of self.now).words 1 }
+    fn second_word(&self) -> Option<&[u8]>
+        ensures { option_copied result ≡ slice_get (state_of self.now).words 1 }
     {
         match self.words.get(1) {
-            Some(word) => Some(word.as_ascii_str()),
+            Some(word) => Some(word.as_slice()),
             None => None,
         }
     }
 
     /// Returns the value at the key that is the second word of the request.
-    fn second_value(&self) -> Option<AsciiStr<'_>>
-        ensures { option_map text_of result
+    fn second_value(&self) -> Option<&[u8]>
+        ensures { option_copied result
             ≡ value_at (state_of self.now).contents (slice_get (state_of self.now).words 1) }
     {
         match self.second_word() {
@@ -271,11 +270,10 @@ impl Handler for Session {
 
     fn answer<K: Sink, A: Allocator>(
         &mut self,
-        text: AsciiStr<'_>,
-        ending: Ending,
+        received: Received<'_>,
         replies: &mut Replies<K, A>,
     ) -> Next {
-        let plan = self.plan(text, ending);
+        let plan = self.plan(received);
         self.say(plan.reply, replies);
         plan.next
     }
@@ -287,6 +285,17 @@ impl Handler for Session {
     ) -> Next {
         replies.text(line_of(Rejection::BadInput));
         Next::Close
+    }
+}
+
+/// Returns a line that has its ending.
+fn whole_line<'a>(received: &Received<'a>) -> Result<AsciiStr<'a>, Rejection>
+    ensures ok { IfOk result (λ line. text_of line ≡ received.now.body) }
+    ensures err { IfErr result (λ rejection. rejection ≡ Rejection.BadInput) }
+{
+    match received.text() {
+        Some(line) if received.ending() != Ending::Absent => Ok(line),
+        _ => Err(Rejection::BadInput),
     }
 }
 

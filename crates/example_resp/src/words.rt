@@ -1,18 +1,18 @@
 //! The words of a line: characters as they are, and characters in single or double quotes.
 
-ghost use Rattle.std.specs.Prelude.{◌≡◌, ◌<◌, ◌↔◌, ◌∷◌, [], IfSome, IsTrue, MatchOption, MatchResult};
+ghost use Rattle.std.specs.Prelude.{◌≡◌, ◌<◌, ◌↔◌, ◌∷◌, [], IfOk, IfSome, IsTrue, MatchOption, MatchResult};
 ghost use Rattle.std.specs.Prelude.{Some, slice_get};
 ghost use Rattle.ascii.specs.Class.{IsDigitIn, IsWhitespace, digit_value};
 ghost use Rattle.ascii.specs.View.{text_of};
-ghost use Rattle.example_resp.specs.Store.{string_texts};
+ghost use Rattle.example_resp.specs.Store.{byte_lists};
 ghost use Rattle.example_resp.specs.Words.{FindsPiece, HasHexPair, HasWords, IsHexPair, IsLineFault};
 ghost use Rattle.example_resp.specs.Words.{HasMark, IsWord, IsWordFault, Opens, TakesPieces};
 ghost use Rattle.example_resp.specs.Words.{escaped_code};
 
 use crate::commands::Rejection;
-use ascii::{AsciiChar, AsciiStr, AsciiString};
+use ascii::{AsciiChar, AsciiStr};
 use ascii_formats::AsciiStrExt;
-use std::alloc::Global;
+use std::alloc::{AllocError, Global};
 
 /// What characters are quoted in.
 #[derive(Clone, Copy, PartialEq, Eq, Debug)]
@@ -34,16 +34,16 @@ pub enum Piece<'a> {
     End,
 }
 
-/// Returns the words of a line, or why they cannot be kept.
-pub fn split_words(alloc: Global, line: AsciiStr<'_>) -> Result<Vec<AsciiString>, Rejection>
+/// Returns the words of a line, or why they cannot be kept. What is in quotes may write any byte.
+pub fn split_words(alloc: Global, line: AsciiStr<'_>) -> Result<Vec<Vec<u8>>, Rejection>
     ensures { MatchResult result
-        (λ words. HasWords (text_of line.entry) (string_texts words.items))
+        (λ words. HasWords (text_of line.entry) (byte_lists words.items))
         (IsLineFault (text_of line.entry)) }
 {
     let mut words = Vec::new(alloc);
     let mut rest = line.trim_start();
     'words: while !rest.is_empty() {
-        let mut word = AsciiString::new(alloc);
+        let mut word = Vec::new(alloc);
         rest = take_word(rest, &mut word)?.trim_start();
         words.push(word)?;
     }
@@ -51,10 +51,10 @@ pub fn split_words(alloc: Global, line: AsciiStr<'_>) -> Result<Vec<AsciiString>
 }
 
 /// Appends the word with which a text begins, and returns what comes after it.
-fn take_word<'a>(text: AsciiStr<'a>, word: &mut AsciiString) -> Result<AsciiStr<'a>, Rejection>
-    requires { word.old.text ≡ [] }
+fn take_word<'a>(text: AsciiStr<'a>, word: &mut Vec<u8>) -> Result<AsciiStr<'a>, Rejection>
+    requires { word.old.items ≡ [] }
     ensures { MatchResult result
-        (λ after. IsWord (text_of text.entry) word.new.text (text_of after))
+        (λ after. IsWord (text_of text.entry) word.new.items (text_of after))
         (IsWordFault (text_of text.entry)) }
 {
     let rest = take_pieces(Quotes::Bare, text, word)?;
@@ -85,17 +85,15 @@ fn opened<'a>(text: AsciiStr<'a>) -> Option<(Quotes, AsciiStr<'a>)>
 fn take_pieces<'a>(
     quotes: Quotes,
     text: AsciiStr<'a>,
-    word: &mut AsciiString,
-) -> Result<AsciiStr<'a>, Rejection>
-    ensures { TakesPieces quotes (text_of text.entry) word.old.text word.new.text result }
+    word: &mut Vec<u8>,
+) -> Result<AsciiStr<'a>, AllocError>
+    ensures { IfOk result (λ rest. TakesPieces quotes (text_of text.entry) word.old.items
+        word.new.items (text_of rest)) }
 {
     let mut rest = text;
     'pieces: loop {
         let Piece::Code(code, others) = next_piece(quotes, rest) else {
             return Ok(rest);
-        };
-        let Ok(code) = AsciiChar::from_ascii(code) else {
-            return Err(Rejection::BadInput);
         };
         word.push(code)?;
         rest = others;

@@ -1,6 +1,7 @@
 -- What a session replies to a line.
 use Rattle.std.specs.Prelude.{◌≡◌, ◌≢◌, ◌⊎◌, ◌<◌, ◌≤◌, ◌-◌, ℕ, Bool, List, [], ◌∷◌, ◌++◌, MatchResult, None, Some, ⊤}
 use Rattle.std.specs.Prelude.{codes, false, length, true}
+use Rattle.std.specs.Str.{IsAscii}
 use Rattle.std.specs.declared.option.Option.{Option}
 use Rattle.std.specs.declared.result.Result.{Result}
 use Rattle.ascii.specs.Lines.{Line}
@@ -153,10 +154,11 @@ AnswersAt Lines old sent said new = AnswersLine old sent said new
 AnswersAt other old line said new =
     (reply : Reply) × (said ≡ Some reply) × AnswersCommand old line reply new
 
--- the reply to a line, which has its ending, or was cut off
+-- the reply to a line, which has its ending, or was cut off. What is not ASCII, which a session does
+-- not ask for, ends it as well
 abbrev pub AnswersInput : State → Line → Option Reply → State → Type 0
-AnswersInput old input said new = ((input.ending ≡ Absent) × (said ≡ Some reply.CutOff)
-    × (new ≡ record old { stage = Greeting }))
+AnswersInput old input said new = (((input.ending ≡ Absent) ⊎ ¬ (IsAscii input.body))
+    × (said ≡ Some reply.CutOff) × (new ≡ idle Greeting old.left old.count old.folder))
     ⊎ ((input.ending ≢ Absent) × AnswersAt old.stage old input.body said new)
 
 -- the reply to an error of the input

@@ -13,7 +13,9 @@ use crate::commands::{Command, MOST_BYTES, Reply, is_foreign, read_command};
 use crate::folder::Folder;
 use crate::mailbox::Mailbox;
 use crate::message::{Message, append_line, unstuff};
-use ascii_lines::{AsciiStr, AsciiString, Ending, Handler, LineError, Next, Replies, Sink};
+use ascii_lines::{
+    AsciiStr, AsciiString, Ending, Handler, LineError, Next, Received, Replies, Sink,
+};
 use std::alloc::{AllocError, Allocator, Global};
 use std::marker::Model;
 use std::mem::replace;
@@ -83,7 +85,8 @@ impl<F: Folder> Model for Session<F> {
 
 impl<F: Folder> Session<F> {
     ghost use Rattle.example_smtp.specs.Mail.{idle};
-    ghost use Rattle.example_smtp.specs.Session.{AnswersCommand, AnswersInput, AnswersLine, Counts};
+    ghost use Rattle.example_smtp.specs.Session.{AnswersAt, AnswersCommand, AnswersInput};
+    ghost use Rattle.example_smtp.specs.Session.{AnswersLine, Counts};
     ghost use Rattle.example_smtp.specs.Session.{Ends, Follows, IsStranger, KeepsLine, RefusesAt};
     ghost use Rattle.example_smtp.specs.Session.{after, spoiled};
 
@@ -110,13 +113,24 @@ impl<F: Folder> Session<F> {
     }
 
     /// Takes a line, and returns the reply, if there is one. If the input ended in the line, the session is over.
-    fn take(&mut self, line: AsciiStr<'_>, ending: Ending) -> Option<Reply>
-        ensures { AnswersInput self.old (line_with line.entry ending) result self.new }
+    fn take(&mut self, received: Received<'_>) -> Option<Reply>
+        ensures { AnswersInput self.old received.entry result self.new }
     {
-        if ending == Ending::Absent {
-            self.stage = Stage::Greeting;
-            return Some(Reply::CutOff);
+        match received.text() {
+            Some(line) if received.ending() != Ending::Absent => self.take_whole(line),
+            _ => {
+                self.stage = Stage::Greeting;
+                self.draft = Message::new(self.alloc);
+                self.fault = None;
+                Some(Reply::CutOff)
+            }
         }
+    }
+
+    /// Takes a line that has its ending, and returns the reply, if there is one.
+    fn take_whole(&mut self, line: AsciiStr<'_>) -> Option<Reply>
+        ensures { AnswersAt self.old.stage self.old (text_of line.entry) result self.new }
+    {
         match self.stage {
             Stage::Lines => self.take_line(line),
             _ => Some(self.take_command(line)),
@@ -291,11 +305,10 @@ impl<F: Folder> Handler for Session<F> {
 
     fn answer<K: Sink, A: Allocator>(
         &mut self,
-        text: AsciiStr<'_>,
-        ending: Ending,
+        received: Received<'_>,
         replies: &mut Replies<K, A>,
     ) -> Next {
-        let reply = self.take(text, ending);
+        let reply = self.take(received);
         let reply = self.count_error(reply);
         say(reply, replies)
     }

@@ -3,13 +3,12 @@
 #![tactic(auto)]
 
 ghost use Rattle.std.specs.Prelude.{◌≡◌, [], ◌∷◌};
-ghost use Rattle.ascii.specs.View.{text_of};
 ghost use Rattle.ascii_lines.specs.Replies.{IsRequest, Says, line_reply};
 ghost use Rattle.examples.specs.Register.{Answers, replies_to};
 
 use ascii::{AsciiStr, AsciiString};
 use ascii_lines::{
-    Duplex, Ending, Endings, Handler, LineChannel, LineError, Next, Replies, Sink, serve,
+    Duplex, Ending, Endings, Handler, LineChannel, LineError, Next, Received, Replies, Sink, serve,
 };
 use std::alloc::{Allocator, Global};
 use std::io;
@@ -53,26 +52,28 @@ impl Register {
     }
 
     /// Takes a line, and says what to do.
-    fn plan(&mut self, text: AsciiStr<'_>) -> Plan
-        ensures plan { Answers self.old.kept.text (text_of text.entry)
+    fn plan(&mut self, line: Received<'_>) -> Plan
+        ensures plan { Answers self.old.kept.text line.entry.body
             (replies_to result.reply self.new.kept.text) result.next self.new.kept.text }
         ensures request { IsRequest result.next }
     {
-        if text.eq_bytes(b"GET") {
+        if line.bytes() == b"GET".as_slice() {
             return Plan {
                 reply: Reply::Kept,
                 next: Next::Line,
             };
         }
-        if text.eq_bytes(b"QUIT") {
+        if line.bytes() == b"QUIT".as_slice() {
             return Plan {
                 reply: Reply::Bye,
                 next: Next::Close,
             };
         }
         let mut reply = Reply::Busy;
-        if let Ok(line) = text.to_ascii_string(self.alloc) {
-            self.kept = line;
+        if let Some(text) = line.text()
+            && let Ok(text) = text.to_ascii_string(self.alloc)
+        {
+            self.kept = text;
             reply = Reply::Done;
         }
         Plan {
@@ -105,11 +106,10 @@ impl Handler for Register {
 
     fn answer<K: Sink, A: Allocator>(
         &mut self,
-        text: AsciiStr<'_>,
-        _ending: Ending,
+        received: Received<'_>,
         replies: &mut Replies<K, A>,
     ) -> Next {
-        let plan = self.plan(text);
+        let plan = self.plan(received);
         self.say(plan.reply, replies);
         plan.next
     }

@@ -9,8 +9,8 @@ use ascii::iter::Ending;
 use ascii::{AsciiChar, AsciiStr};
 use ascii_lines::{
     Block, BlockEnd, Duplex, Endings, Handler, Input, LineChannel, LineError, LineReader, LineStep,
-    LineWriter, Next, Output, OwnedLine, ReadBytes, ReadLine, ReadPart, Replies, Sink, SkippedLine,
-    Stop, WriteError, collect_lines, fold_lines, read_block, serve,
+    LineWriter, Next, Output, OwnedLine, ReadBytes, ReadLine, ReadPart, Received, Replies, Sink,
+    SkippedLine, Stop, WriteError, collect_lines, fold_lines, read_block, serve,
 };
 use std::alloc::{AllocError, Allocator, Global};
 
@@ -291,10 +291,10 @@ impl Handler for Echo {
 
     fn answer<K: Sink, A: Allocator>(
         &mut self,
-        text: AsciiStr,
-        _ending: Ending,
+        received: Received,
         replies: &mut Replies<K, A>,
     ) -> Next {
+        let text = received.text().unwrap_or_default();
         let Ok(reply) = text.to_ascii_uppercase(self.alloc) else {
             self.fault = Some(WriteError::Write);
             return Next::Close;

@@ -7,7 +7,7 @@ use crate::devices::{Device, Given, Taken};
 use ascii::{AsciiStr, text};
 use ascii_lines::{
     Conversation, Duplex, Ending, Endings, Handler, LineChannel, LineError, LineWriter, Next,
-    Output, Replies, Sink, Stop, serve,
+    Output, Received, Replies, Sink, Stop, serve,
 };
 use std::alloc::{AllocError, Allocator, Global};
 
@@ -194,12 +194,14 @@ struct Words {
 
 impl Words {
     /// The lines that reply to a text, and what comes next. After `part` comes a part, which is answered as a line is; after
-    /// `hold` the next line, once the replies were sent.
+    /// `bytes` one that may have any bytes, which is answered by itself if it is not ASCII; after `hold` the next line, once
+    /// the replies were sent.
     fn reply(count: u8, text: AsciiStr) -> (&'static str, Next)
         ensures { IsRequest result.1 }
     {
         match text.as_str() {
             "part" => ("", Next::Part(4)),
+            "bytes" => ("", Next::Bytes(4)),
             "two" => ("one\r\ntwo\r\n", Next::Line),
             "hold" => ("ok\r\n", Next::LineOnceSent),
             _ if count > 9 => ("many\r\n", Next::Line),
@@ -229,16 +231,19 @@ impl Handler for Words {
 
     fn answer<K: Sink, A: Allocator>(
         &mut self,
-        text: AsciiStr,
-        ending: Ending,
+        received: Received,
         replies: &mut Replies<K, A>,
     ) -> Next {
         self.count = self.count.saturating_add(1);
+        let Some(text) = received.text() else {
+            replies.bytes(received.bytes());
+            return Next::Line;
+        };
         if text.as_str() == "quit" {
             replies.fixed_line(AsciiStr::literal("bye"));
             return Next::Close;
         }
-        if ending == Ending::Absent && text.as_str() == "cut" {
+        if received.ending() == Ending::Absent && text.as_str() == "cut" {
             replies.part(ascii("cut off"));
             return Next::Close;
         }

@@ -15,7 +15,7 @@ ghost use Rattle.tests_callers.specs.Servers.{reply_to};
 
 use ascii_lines::{
     AsciiStr, Awaited, Channel, Conversation, Duplex, Ending, Endings, Handler, LineChannel,
-    LineError, Next, Replies, Sink, Stop, Supply, serve,
+    LineError, Next, Received, Replies, Sink, Stop, Supply, serve,
 };
 use std::alloc::{AllocError, Allocator, Global};
 
@@ -32,11 +32,10 @@ impl Handler for Echo {
 
     fn answer<K: Sink, A: Allocator>(
         &mut self,
-        text: AsciiStr<'_>,
-        _ending: Ending,
+        received: Received<'_>,
         replies: &mut Replies<K, A>,
     ) -> Next {
-        replies.text(text);
+        replies.bytes(received.bytes());
         Next::Line
     }
 
@@ -121,17 +120,17 @@ impl Lamp {
     }
 
     /// Takes a line, and says what to do.
-    fn plan(&mut self, text: AsciiStr<'_>) -> LampPlan
-        ensures reply { result.reply ≡ reply_to self.old.lit (text_of text.entry) }
+    fn plan(&mut self, line: &[u8]) -> LampPlan
+        ensures reply { result.reply ≡ reply_to self.old.lit line.now }
         ensures next { result.next ≡ Next.Line }
-        ensures lit { self.new.lit ≡ lit_after self.old.lit (text_of text.entry) }
+        ensures lit { self.new.lit ≡ lit_after self.old.lit line.now }
     {
         let mut reply = LampReply::Done;
-        if text.eq_bytes(b"ON") {
+        if line == b"ON".as_slice() {
             self.lit = true;
-        } else if text.eq_bytes(b"OFF") {
+        } else if line == b"OFF".as_slice() {
             self.lit = false;
-        } else if text.eq_bytes(b"SHOW") {
+        } else if line == b"SHOW".as_slice() {
             reply = if self.lit {
                 LampReply::Lit
             } else {
@@ -168,11 +167,10 @@ impl Handler for Lamp {
 
     fn answer<K: Sink, A: Allocator>(
         &mut self,
-        text: AsciiStr<'_>,
-        _ending: Ending,
+        received: Received<'_>,
         replies: &mut Replies<K, A>,
     ) -> Next {
-        let plan = self.plan(text);
+        let plan = self.plan(received.bytes());
         say(plan.reply, replies);
         plan.next
     }

@@ -12,12 +12,12 @@ pub pieces-preserved : goal.pieces-preserved
 pieces-preserved c =
     let so_far = c.pieces.invariant in
     let code = c.in-Code.code in
-    let pushed : c.push.new.self.text ≡ c.pieces.word.text ++ code ∷ [] =
+    let pushed : c.push.new.self.items ≡ c.pieces.word.items ++ code ∷ [] =
     grind (arith, common_steps) in (
       so_far.0 ++ code ∷ [],
       pushed
           ∙ (ap (λ (text : List ℕ). text ++ code ∷ []) so_far.1
-          ∙ append_assoc c.args.word.now.text so_far.0 (code ∷ [])),
+          ∙ append_assoc c.args.word.now.items so_far.0 (code ∷ [])),
       pieces_more c.args.quotes (text_of c.args.text) so_far.0 (text_of c.pieces.rest) code
           (text_of c.in-Code.others) so_far.2 c.in-Code.ensures,
     )

@@ -1,4 +1,3 @@
-use Rattle.ascii_lines.specs.LineReader.{read_line_in}
 use Rattle.ascii_lines.proofs.TurnsLemmas.{turn_takes}
 use Rattle.ascii_lines.proofs.conversation.Dialogue.hand.Goals as goal
 
@@ -8,7 +7,7 @@ returns-clause-turn g c =
     rw (c.after_answer-self.ensures, c.take.ensures.held)
     (turn_takes g.H.Handler.answers g.H.Handler.refuses _ c.args.self.now.buffer _
     c.args.handler.now c.answer-next.new.self _ c.args.replies.now c.answer-next.new.replies
-    c.args.asked c.args.wanted c.args.found (read_line_in c.input_at-input.result).item said.0
+    c.args.asked c.args.wanted c.args.found c.received_at-received.result said.0
     c.answer-next.result c.requires.wanted c.requires.request c.requires.some c.requires.found
-    (rw (c.line_bytes.ensures, c.take.ensures.given) at c.input_at-input.ensures) said.1 said.2
+    (rw (c.line_bytes.ensures, c.take.ensures.given) at c.received_at-received.ensures) said.1 said.2
     c.answer-next.ensures.request)

@@ -3,7 +3,7 @@ use Rattle.std.proofs.lemmas.Bool.{false≢true}
 use Rattle.std.proofs.lemmas.Result.{IfOk-weaker}
 use Rattle.ascii.specs.View.{text_of}
 use Rattle.example_resp.specs.Requests.{IsLength, most_words}
-use Rattle.example_resp.specs.Store.{string_texts}
+use Rattle.example_resp.specs.Store.{byte_lists}
 use Rattle.example_resp.specs.declared.session.Length.TheVariants.{Absent}
 use Rattle.example_resp.proofs.session.Session.plan_request.Goals as goal
 
@@ -17,7 +17,7 @@ returns-in-Ok-clause-answers c =
       other = λ _. (
         Absent,
         absent,
-        inl (string_texts c.in-Ok.words.items, c.in-Ok.ensures, carried),
+        inl (byte_lists c.in-Ok.words.items, c.in-Ok.ensures, carried),
       );
     })
     c.carry_out.ensures.answers

@@ -1,11 +1,11 @@
 use Rattle.std.proofs.Common.{◌≡◌, Some, rules}
-use Rattle.ascii.specs.View.{text_of}
 use Rattle.example_resp.proofs.StoreLemmas.{changes_contents}
 use Rattle.example_resp.proofs.store.Store.set.Goals as goal
 
 pub returns : goal.returns
 returns c =
-    let value : c.in_ok-value.value.text ≡ text_of c.args.value = search rules in
-    rw (← value)
+    let key : c.in_ok-key.key.items ≡ c.args.key.now = search rules in
+    let value : c.in_ok-value.value.items ≡ c.args.value.now = search rules in
+    rw (← key, ← value)
     (changes_contents c.args.self.now (record { entries = c.insert.new.self })
-    (text_of c.args.key) (Some c.in_ok-value.value) c.in_ok-insert.ensures.puts)
+    c.in_ok-key.key.items (Some c.in_ok-value.value) c.in_ok-insert.ensures.updates)

@@ -1,13 +1,12 @@
-use Rattle.std.proofs.Common.{◌≢◌, ℕ, List, Some, arith, inr, refl}
+use Rattle.std.proofs.Common.{◌≢◌, ℕ, List, Some, arith, refl}
 use Rattle.ascii.specs.View.{text_of}
-use Rattle.ascii.specs.declared.iter.spans.Ending.TheVariants.{Absent}
 use Rattle.example_smtp.specs.Mail.{State}
 use Rattle.example_smtp.specs.Session.{AnswersAt, AnswersCommand}
 use Rattle.example_smtp.specs.declared.commands.Reply.{Reply}
 use Rattle.example_smtp.specs.declared.session.Stage.{Stage}
 use Rattle.example_smtp.specs.declared.session.Stage.TheVariants.{Greeting, Lines, Ready}
 use Rattle.example_smtp.specs.declared.session.Stage.TheVariants.{Recipients, Sender}
-use Rattle.example_smtp.proofs.session.Session.take.Goals as goal
+use Rattle.example_smtp.proofs.session.Session.take_whole.Goals as goal
 
 -- outside a message, a line is to say a command
 command_at : (old new : State) (line : List ℕ) (said : Reply) (stage : Stage) → stage ≢ Lines
@@ -20,10 +19,6 @@ command_at old new line said Recipients apart answers = (said, refl, answers)
 
 pub returns-in_default : goal.returns-in_default
 returns-in_default g c =
-    let whole : c.args.ending ≢ Absent = grind arith in
     let apart : c.args.self.now.stage ≢ Lines = grind arith in
-    inr (
-      whole,
-      command_at c.args.self.now c.take_command.new.self (text_of c.args.line)
-          c.take_command.result c.args.self.now.stage apart c.take_command.ensures,
-    )
+    command_at c.args.self.now c.take_command.new.self (text_of c.args.line) c.take_command.result
+    c.args.self.now.stage apart c.take_command.ensures
