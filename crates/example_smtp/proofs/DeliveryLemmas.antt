@@ -21,16 +21,19 @@ use Rattle.ascii_lines.specs.declared.conversation.Supply.{Supply}
 use Rattle.ascii_lines.specs.declared.line_reader.LineError.{LineError}
 use Rattle.ascii_lines.specs.declared.line_reader.LineError.TheVariants as error
 use Rattle.example_smtp.proofs.FolderLemmas.{in_none, in_then}
-use Rattle.example_smtp.specs.Commands.{ReadsCommand}
-use Rattle.example_smtp.specs.Deliveries.{AreExchanges, Brings, Delivers, Exchange, IsText, Sent}
+use Rattle.example_smtp.specs.Commands.{ReadsCommand, Says}
+use Rattle.example_smtp.specs.Deliveries.{Addresses, AreExchanges, Brings, Delivers, Exchange}
+use Rattle.example_smtp.specs.Deliveries.{IsText, Sent}
 use Rattle.example_smtp.specs.Deliveries.{begun_after, ends, part_of}
 use Rattle.example_smtp.specs.Folder.{StoresIn}
-use Rattle.example_smtp.specs.Mail.{Keeps, State, file_of, most_count, text_of_lines, unstuffed}
+use Rattle.example_smtp.specs.Mail.{Keeps, Mail, State, file_of, idle, most_count, no_mail}
+use Rattle.example_smtp.specs.Mail.{text_of_lines, unstuffed}
 use Rattle.example_smtp.specs.Session.{Counts, CountsBy, is_error}
 use Rattle.example_smtp.specs.Session.{AnswersAt, AnswersCommand, AnswersInput, AnswersLine, Ends}
 use Rattle.example_smtp.specs.Session.{Follows, RefusesAt, TakesLine, after, next_after}
 use Rattle.example_smtp.specs.Session.{first_fault, refusal_of, reply_of_fault, reply_to}
-use Rattle.example_smtp.specs.Session.{reset_stage, session_answers, session_refuses}
+use Rattle.example_smtp.specs.Session.{envelope_after, reset_stage, session_answers}
+use Rattle.example_smtp.specs.Session.{session_refuses, spoiled}
 use Rattle.example_smtp.specs.declared.commands.Command.{Command}
 use Rattle.example_smtp.specs.declared.commands.Command.TheVariants.{AddRecipient, BeginLines, Extend}
 use Rattle.example_smtp.specs.declared.commands.Command.TheVariants.{Introduce, Leave, Reset}
@@ -62,42 +65,55 @@ keeps_then old mid new first then before after = (
 
 -- ---- one exchange
 
--- the session is in the lines of a message, of which these were sent, or in none
-abbrev pub Inside : Option Sent → State → Type 0
-Inside None state = state.stage ≢ Lines
-Inside (Some sent) state =
-    (state.stage ≡ Lines) × (state.fault ≡ None → IsText sent state.draft.text)
+-- the session is in the lines of a message with this envelope, of which these were sent, or in none
+abbrev pub Inside : Option Sent → Mail → State → Type 0
+Inside None envelope state = (state.stage ≢ Lines) × (state.draft ≡ envelope)
+Inside (Some sent) envelope state = (state.stage ≡ Lines)
+    × (state.draft ≡ record envelope { text = state.draft.text })
+    × (state.fault ≡ None → IsText sent state.draft.text)
 
 -- an exchange delivers messages, which the folder stores
-pub record Moves (old : State) (begun : Option Sent) (line : Option (List ℕ)) (said : Option Reply)
-    (new : State) : Type 0 where
+pub record Moves (old : State) (begun : Option Sent) (envelope : Mail) (line : Option (List ℕ))
+    (said : Option Reply) (new : State) : Type 0 where
   pub mails : List (List ℕ)
-  pub brings : Brings (part_of said) begun line mails
+  pub after : Mail
+  pub brings : Brings (part_of said) begun envelope line mails
+  pub addresses : Addresses begun envelope line said after
   pub stored : Keeps old mails new
-  pub inside : Inside (begun_after (part_of said) begun line) new
+  pub inside : Inside (begun_after (part_of said) begun line) after new
 
-module _ (old new : State) (begun : Option Sent) (line : Option (List ℕ)) (said : Option Reply)
-  where
-    -- a message is dropped, or there was none
-    quiet : part_of said ≡ ends → new.stage ≢ Lines → Keeps old [] new
-        → Moves old begun line said new
-    quiet part apart stored = record {
-      mails = [];
-      brings = subst (λ p. Brings p begun line []) (sym part) refl;
-      stored = stored;
-      inside = subst (λ p. Inside (begun_after p begun line) new) (sym part) apart;
-    }
+module _ (old new : State) (begun : Option Sent) (envelope : Mail) (line : Option (List ℕ)) where
+  -- a message is dropped, or there was none
+  quiet : (reply : Reply) → part_of (Some reply) ≡ ends
+      → Addresses begun envelope line (Some reply) new.draft → new.stage ≢ Lines → Keeps old [] new
+      → Moves old begun envelope line (Some reply) new
+  quiet reply part addresses apart stored = record {
+    mails = [];
+    after = new.draft;
+    brings = subst (λ p. Brings p begun envelope line []) (sym part) refl;
+    addresses = addresses;
+    stored = stored;
+    inside = subst (λ p. Inside (begun_after p begun line) new.draft new) (sym part) (apart, refl);
+  }
 
-    -- nothing changes
-    stays : part_of said ≡ ends → old.stage ≢ Lines → new ≡ old → Moves old begun line said new
-    stays part apart same = quiet part (λ is. apart (ap (λ (s : State). s.stage) (sym same) ∙ is))
-        (subst (Keeps old []) (sym same) (keeps_none old))
+module _ (old new : State) (envelope : Mail) (line : Option (List ℕ))
+    (outside : Inside None envelope old) (same : new ≡ old) where
+  -- nothing changes
+  stays : (reply : Reply) → part_of (Some reply) ≡ ends
+      → Addresses None envelope line (Some reply) envelope
+      → Moves old None envelope line (Some reply) new
+  stays reply part addresses = subst (Moves old None envelope line (Some reply)) (sym same)
+      (quiet old old None envelope line reply part
+      (subst (Addresses None envelope line (Some reply)) (sym outside.1) addresses) outside.0
+      (keeps_none old))
 
--- the part of a reply that is known
-part_by : (said : Option Reply) (reply other : Reply) → said ≡ Some reply → reply ≡ other
-    → part_of (Some other) ≡ ends → part_of said ≡ ends
-part_by said reply other is same part =
-    ap part_of is ∙ (ap (λ r. part_of (Some r)) same ∙ part)
+  -- the same of a reply that is known
+  stays_by : (said reply other : Reply) → said ≡ reply → reply ≡ other
+      → part_of (Some other) ≡ ends → Addresses None envelope line (Some other) envelope
+      → Moves old None envelope line (Some said) new
+  stays_by said reply other is known part addresses =
+      subst (λ r. Moves old None envelope line (Some r) new) (sym (is ∙ known))
+      (stays other part addresses)
 
 -- a reset leaves the session outside a message
 reset_apart : (stage : Stage) → reset_stage stage ≢ Lines
@@ -107,7 +123,7 @@ reset_apart Sender is = cc
 reset_apart Recipients is = cc
 reset_apart Lines is = cc
 
--- an error of the input is outside a message
+-- an error of the input is outside a message, and leaves the envelope
 refusal_part : (error : LineError) → part_of (Some (refusal_of error)) ≡ ends
 refusal_part (error.NotAscii place) = refl
 refusal_part (error.LoneBreak place) = refl
@@ -116,6 +132,15 @@ refusal_part error.TooFar = refl
 refusal_part (error.Incomplete count) = refl
 refusal_part error.Read = refl
 
+refusal_addresses : (error : LineError) (envelope : Mail)
+    → Addresses None envelope None (Some (refusal_of error)) envelope
+refusal_addresses (error.NotAscii place) envelope = refl
+refusal_addresses (error.LoneBreak place) envelope = refl
+refusal_addresses (error.TooLong start) envelope = refl
+refusal_addresses error.TooFar envelope = refl
+refusal_addresses (error.Incomplete count) envelope = refl
+refusal_addresses error.Read envelope = refl
+
 -- a message with a fault is dropped
 fault_part : (fault : Fault) → part_of (Some (reply_of_fault fault)) ≡ ends
 fault_part Rejected = refl
@@ -123,78 +148,91 @@ fault_part OtherBytes = refl
 fault_part TooLarge = refl
 fault_part NoMemory = refl
 
-module _ (old new : State) (line : List ℕ) (said : Option Reply) (apart : old.stage ≢ Lines) where
-  -- a command that begins no message
-  carried : (command : Command) → said ≡ Some (reply_to command) → new ≡ after old command
-      → part_of (Some (reply_to command)) ≡ ends → (after old command).stage ≢ Lines
-      → Keeps old [] (after old command) → Moves old None (Some line) said new
-  carried command is same part stage kept =
-      quiet old new None (Some line) said (ap part_of is ∙ part)
-      (λ l. stage (ap (λ (s : State). s.stage) (sym same) ∙ l))
-      (subst (Keeps old []) (sym same) kept)
+module _ (old new : State) (envelope : Mail) (line : List ℕ) (outside : Inside None envelope old)
+  where
+    -- a command that begins no message
+    carried : (command : Command) → new ≡ after old command
+        → part_of (Some (reply_to command)) ≡ ends
+        → Addresses None envelope (Some line) (Some (reply_to command)) (after old command).draft
+        → (after old command).stage ≢ Lines → Keeps old [] (after old command)
+        → Moves old None envelope (Some line) (Some (reply_to command)) new
+    carried command same part addresses stage kept =
+        subst (Moves old None envelope (Some line) (Some (reply_to command))) (sym same)
+        (quiet old (after old command) None envelope (Some line) (reply_to command) part addresses
+        stage kept)
 
-  -- a command that is carried out
-  followed : (command : Command) → said ≡ Some (reply_to command) → new ≡ after old command
-      → Moves old None (Some line) said new
-  followed BeginLines is same = subst (λ r. Moves old None (Some line) r new) (sym is)
-      (subst (λ s. Moves old None (Some line) (Some (reply_to BeginLines)) s) (sym same) (record {
-        mails = [];
-        brings = refl;
-        stored = keeps_none old;
-        inside = (refl, λ whole. ([], refl, refl));
-      }))
-  followed (Introduce domain) is same =
-      carried (Introduce domain) is same refl (λ l. cc) (keeps_none old)
-  followed (Extend domain) is same = carried (Extend domain) is same refl (λ l. cc) (keeps_none old)
-  followed (SetSender address) is same =
-      carried (SetSender address) is same refl (λ l. cc) (keeps_none old)
-  followed (AddRecipient address) is same =
-      carried (AddRecipient address) is same refl (λ l. cc) (keeps_none old)
-  followed Reset is same = carried Reset is same refl (reset_apart old.stage) (keeps_none old)
-  followed (Verify mailbox) is same = carried (Verify mailbox) is same refl apart (keeps_none old)
-  followed command.Reply is same = carried command.Reply is same refl apart (keeps_none old)
-  followed Leave is same = carried Leave is same refl apart (keeps_none old)
+    -- the envelope is that of the session
+    here : (command : Command) → envelope_after old.draft command ≡ envelope_after envelope command
+    here command = ap (λ mail. envelope_after mail command) outside.1
 
-  -- a command, or why there is none
-  by_outcome : (reply : Reply) → said ≡ Some reply → (outcome : Result Command Reply)
-      → ReadsCommand line outcome
-      → MatchResult outcome (λ command. Follows old command reply new)
-      (λ fault. (reply ≡ fault) × (new ≡ old))
-      → Moves old None (Some line) said new
-  by_outcome reply is (Ok command) says follows = elim follows [
-    | inl done ↦ followed command (is ∙ ap Some done.2) done.3
-    | inr (inl early, same) ↦
-        stays old new None (Some line) said (part_by said reply _ is early.1 refl) apart same
-    | inr (inr (inl late), same) ↦
-        stays old new None (Some line) said (part_by said reply _ is late.2 refl) apart same
-    | inr (inr (inr memory), same) ↦
-        stays old new None (Some line) said (part_by said reply _ is memory refl) apart same
-  ]
-  by_outcome reply is (Err fault) faulty (said_it, same) = elim faulty [
-    | inl unknown ↦ stays old new None (Some line) said
-        (part_by said reply _ is (said_it ∙ unknown.0) refl) apart same
-    | inr bad ↦ elim bad.6 [
-      | inl large ↦
-          stays old new None (Some line) said
-          (part_by said reply _ is (said_it ∙ large.1) refl) apart same
-      | inr (inl parameter) ↦
-          stays old new None (Some line) said
-          (part_by said reply _ is (said_it ∙ parameter.2) refl) apart same
-      | inr (inr argument) ↦
-          stays old new None (Some line) said
-          (part_by said reply _ is (said_it ∙ argument.2) refl) apart same
+    -- a command that is carried out
+    followed : (command : Command) → Says line command → new ≡ after old command
+        → Moves old None envelope (Some line) (Some (reply_to command)) new
+    followed BeginLines says same =
+        subst (Moves old None envelope (Some line) (Some (reply_to BeginLines))) (sym same) (record {
+          mails = [];
+          after = envelope;
+          brings = refl;
+          addresses = refl;
+          stored = keeps_none old;
+          inside = (
+            refl,
+            ap (λ (mail : Mail). record mail { text = [] }) outside.1,
+            λ whole. ([], refl, refl),
+          );
+        })
+    followed (Introduce domain) says same = carried (Introduce domain) same refl
+        (Introduce domain, says, refl) (λ l. cc) (keeps_none old)
+    followed (Extend domain) says same =
+        carried (Extend domain) same refl refl (λ l. cc) (keeps_none old)
+    followed (SetSender address) says same = carried (SetSender address) same refl
+        (SetSender address, says, refl) (λ l. cc) (keeps_none old)
+    followed (AddRecipient address) says same = carried (AddRecipient address) same refl
+        (AddRecipient address, says, here (AddRecipient address)) (λ l. cc) (keeps_none old)
+    followed Reset says same = carried Reset same refl (Reset, says, refl) (reset_apart old.stage)
+        (keeps_none old)
+    followed (Verify mailbox) says same =
+        carried (Verify mailbox) same refl outside.1 outside.0 (keeps_none old)
+    followed command.Reply says same = carried command.Reply same refl
+        (command.Reply, says, outside.1) outside.0 (keeps_none old)
+    followed Leave says same = carried Leave same refl outside.1 outside.0 (keeps_none old)
+
+    -- a command, or why there is none
+    by_outcome : (reply : Reply) (outcome : Result Command Reply) → ReadsCommand line outcome
+        → MatchResult outcome (λ command. Follows old command reply new)
+        (λ fault. (reply ≡ fault) × (new ≡ old))
+        → Moves old None envelope (Some line) (Some reply) new
+    by_outcome reply (Ok command) says follows = elim follows [
+      | inl done ↦ subst (λ r. Moves old None envelope (Some line) (Some r) new) (sym done.2)
+          (followed command says done.3)
+      | inr (inl early, same) ↦
+          stays_by old new envelope (Some line) outside same reply reply _ refl early.1 refl refl
+      | inr (inr (inl late), same) ↦
+          stays_by old new envelope (Some line) outside same reply reply _ refl late.2 refl refl
+      | inr (inr (inr memory), same) ↦
+          stays_by old new envelope (Some line) outside same reply reply _ refl memory refl refl
     ]
-  ]
+    by_outcome reply (Err fault) faulty (said_it, same) = elim faulty [
+      | inl unknown ↦
+          stays_by old new envelope (Some line) outside same reply fault _ said_it unknown.0 refl refl
+      | inr bad ↦ elim bad.6 [
+        | inl large ↦
+            stays_by old new envelope (Some line) outside same reply fault _ said_it large.1 refl refl
+        | inr (inl parameter) ↦ stays_by old new envelope (Some line) outside same reply fault _
+            said_it parameter.2 refl refl
+        | inr (inr argument) ↦ stays_by old new envelope (Some line) outside same reply fault _
+            said_it argument.2 refl refl
+      ]
+    ]
 
-  -- a line outside a message
-  outside : (reply : Reply) → said ≡ Some reply → AnswersCommand old line reply new
-      → Moves old None (Some line) said new
-  outside reply is answers = elim answers [
-    | inl stranger ↦
-        stays old new None (Some line) said (part_by said reply _ is stranger.1 refl) apart
-        stranger.2
-    | inr verb ↦ by_outcome reply is verb.1.0 verb.1.1 verb.1.2
-  ]
+    -- a line outside a message
+    command_moves : (reply : Reply) → AnswersCommand old line reply new
+        → Moves old None envelope (Some line) (Some reply) new
+    command_moves reply answers = elim answers [
+      | inl stranger ↦ stays_by old new envelope (Some line) outside stranger.2 reply reply _ refl
+          stranger.1 refl refl
+      | inr verb ↦ by_outcome reply verb.1.0 verb.1.1 verb.1.2
+    ]
 
 -- ---- the lines of a message
 
@@ -214,97 +252,121 @@ text_more sent text line (lines, are, is) = (
       ∙ ap (λ xs. text_of_lines lines ++ xs) (append-nil (unstuffed line ++ 13 ∷ 10 ∷ []))),
 )
 
-module _ (old new : State) (sent : Sent) (said : Option Reply) (inside : Inside (Some sent) old)
-  where
-    -- a line that is not answered
-    goes_on : (line : Option (List ℕ)) → said ≡ None → line ≢ Some (codes ".")
-        → Keeps old [] new → new.stage ≡ old.stage
-        → (new.fault ≡ None → IsText (sent ++ line ∷ []) new.draft.text)
-        → Moves old (Some sent) line said new
-    goes_on line is other stored stage kept =
-        subst (λ r. Moves old (Some sent) line r new) (sym is) (record {
-          mails = [];
-          brings = (refl, other);
-          stored = stored;
-          inside = (stage ∙ inside.0, kept);
-        })
+module _ (old new : State) (sent : Sent) (envelope : Mail)
+    (inside : Inside (Some sent) envelope old) where
+  -- a line that is not answered
+  goes_on : (line : Option (List ℕ)) → line ≢ Some (codes ".") → Keeps old [] new
+      → new.stage ≡ old.stage → new.draft ≡ record old.draft { text = new.draft.text }
+      → (new.fault ≡ None → IsText (sent ++ line ∷ []) new.draft.text)
+      → Moves old (Some sent) envelope line None new
+  goes_on line other stored stage draft kept = record {
+    mails = [];
+    after = envelope;
+    brings = (refl, other);
+    addresses = refl;
+    stored = stored;
+    inside = (
+      stage ∙ inside.0,
+      draft ∙ ap (λ (mail : Mail). record mail { text = new.draft.text }) inside.1,
+      kept,
+    );
+  }
 
-    -- a dot
-    ended : (reply : Reply) → said ≡ Some reply → (fault : Option Fault) → old.fault ≡ fault
-        → Ends fault old reply new → Moves old (Some sent) (Some (codes ".")) said new
-    ended reply is (Some fault) bad (done, same) =
-        quiet old new (Some sent) (Some (codes ".")) said
-        (part_by said reply _ is done (fault_part fault))
-        (λ l. let e : Ready ≡ Lines = ap (λ (s : State). s.stage) (sym same) ∙ l in cc)
-        (subst (Keeps old []) (sym same) (keeps_none old))
-    ended reply is None whole (stores, same) =
-        let apart : new.stage ≢ Lines =
-        λ l. let e : Ready ≡ Lines = ap (λ (s : State). s.stage) (sym same) ∙ l in cc in
-        elim stores [
-          | inl done ↦
-              subst (λ r. Moves old (Some sent) (Some (codes ".")) r new)
-              (sym (is ∙ ap Some done.0)) (record {
-                mails = file_of old.draft ∷ [];
-                brings = (old.draft, refl, inside.1 whole, refl);
-                stored = done.1;
-                inside = apart;
-              })
-          | inr (inl failed) ↦
-              quiet old new (Some sent) (Some (codes ".")) said
-              (part_by said reply _ is failed.0 refl) apart failed.1
-          | inr (inr memory) ↦
-              quiet old new (Some sent) (Some (codes ".")) said
-              (part_by said reply _ is memory.0 refl) apart (
-                subst (λ f. StoresIn old.folder [] f) (sym memory.1) (in_none old.folder),
-                λ fits. memory.2 ∙ (keeps_none old).1 fits,
-              )
-        ]
+  -- a message that is dropped
+  dropped : (reply : Reply) → part_of (Some reply) ≡ ends → new.stage ≡ Ready
+      → new.draft ≡ no_mail → Keeps old [] new
+      → Moves old (Some sent) envelope (Some (codes ".")) (Some reply) new
+  dropped reply part stage none stored = quiet old new (Some sent) envelope (Some (codes "."))
+      reply part none (λ l. let e : Ready ≡ Lines = sym stage ∙ l in cc) stored
 
-    -- a line that is kept, or ignored
-    taken : (line : List ℕ) → said ≡ None → line ≢ codes "." → (fault : Option Fault)
-        → old.fault ≡ fault → TakesLine fault old line new
-        → Moves old (Some sent) (Some line) said new
-    taken line is other (Some fault) bad same =
-        goes_on (Some line) is (λ e. other (ap text_in e))
-        (subst (Keeps old []) (sym same) (keeps_none old)) (ap (λ (s : State). s.stage) same)
-        (λ none. let e : None ≡ Some fault =
-        sym none ∙ (ap (λ (s : State). s.fault) same ∙ bad) in cc)
-    taken line is other None whole keeps = elim keeps [
-      | inl fits ↦
-          goes_on (Some line) is (λ e. other (ap text_in e))
-          (subst (Keeps old []) (sym fits.1) (keeps_none old)) (ap (λ (s : State). s.stage) fits.1)
-          (λ none. subst (λ (s : State). IsText (sent ++ Some line ∷ []) s.draft.text)
-          (sym fits.1) (text_more sent old.draft.text line (inside.1 whole)))
-      | inr (inl large) ↦
-          goes_on (Some line) is (λ e. other (ap text_in e))
-          (subst (Keeps old []) (sym large.1) (keeps_none old)) (ap (λ (s : State). s.stage) large.1)
-          (λ none. let e : None ≡ Some TooLarge =
-          sym none ∙ ap (λ (s : State). s.fault) large.1 in cc)
-      | inr (inr memory) ↦
-          goes_on (Some line) is (λ e. other (ap text_in e))
-          (subst (Keeps old []) (sym memory) (keeps_none old)) (ap (λ (s : State). s.stage) memory)
-          (λ none. let e : None ≡ Some NoMemory =
-          sym none ∙ ap (λ (s : State). s.fault) memory in cc)
-    ]
+  -- a dot
+  ended : (said : Reply) (fault : Option Fault) → old.fault ≡ fault → Ends fault old said new
+      → Moves old (Some sent) envelope (Some (codes ".")) (Some said) new
+  ended said (Some fault) bad (done, same) =
+      subst (λ r. Moves old (Some sent) envelope (Some (codes ".")) (Some r) new) (sym done)
+      (dropped (reply_of_fault fault) (fault_part fault) (ap (λ (s : State). s.stage) same)
+      (ap (λ (s : State). s.draft) same) (subst (Keeps old []) (sym same) (keeps_none old)))
+  ended said None whole (stores, same) =
+      let stage : new.stage ≡ Ready = ap (λ (s : State). s.stage) same in
+      let none : new.draft ≡ no_mail = ap (λ (s : State). s.draft) same in
+      elim stores [
+        | inl done ↦
+            subst (λ r. Moves old (Some sent) envelope (Some (codes ".")) (Some r) new)
+            (sym done.0) (record {
+              mails = file_of old.draft ∷ [];
+              after = no_mail;
+              brings = (
+                old.draft.text,
+                inside.2 whole,
+                ap (λ (mail : Mail). file_of mail ∷ []) inside.1,
+                refl,
+              );
+              addresses = refl;
+              stored = done.1;
+              inside = (λ l. let e : Ready ≡ Lines = sym stage ∙ l in cc, none);
+            })
+        | inr (inl failed) ↦
+            subst (λ r. Moves old (Some sent) envelope (Some (codes ".")) (Some r) new)
+            (sym failed.0) (dropped reply.NotStored refl stage none failed.1)
+        | inr (inr memory) ↦
+            subst (λ r. Moves old (Some sent) envelope (Some (codes ".")) (Some r) new)
+            (sym memory.0) (dropped reply.NoMemory refl stage none (
+              subst (λ f. StoresIn old.folder [] f) (sym memory.1) (in_none old.folder),
+              λ fits. memory.2 ∙ (keeps_none old).1 fits,
+            ))
+      ]
 
-    -- a line of a message
-    in_line : (line : List ℕ) → AnswersLine old line said new
-        → Moves old (Some sent) (Some line) said new
-    in_line line answers = elim answers [
-      | inl dot ↦
-          subst (λ l. Moves old (Some sent) (Some l) said new) (sym dot.0)
-          (ended dot.1.0 dot.1.1 old.fault refl dot.1.2)
-      | inr text ↦ taken line text.1 text.0 old.fault refl text.2
-    ]
+  -- a line that spoils the message
+  spoils : (line : Option (List ℕ)) (fault : Fault) → line ≢ Some (codes ".")
+      → new ≡ spoiled old fault → Moves old (Some sent) envelope line None new
+  spoils line fault other same = goes_on line other
+      (subst (Keeps old []) (sym same) (keeps_none old)) (ap (λ (s : State). s.stage) same)
+      (subst (λ (s : State). s.draft ≡ record old.draft { text = s.draft.text }) (sym same) refl)
+      (λ none. let e : None ≡ Some fault = sym none ∙ ap (λ (s : State). s.fault) same in cc)
 
-    -- a line of a message that was rejected
-    refused : (error : LineError) → RefusesAt Lines old error said new
-        → Moves old (Some sent) None said new
-    refused error (silent, same) =
-        goes_on None silent (λ is. cc) (subst (Keeps old []) (sym same) (keeps_none old))
-        (ap (λ (s : State). s.stage) same)
-        (λ none. let e : None ≡ Some (first_fault old.fault error) =
-        sym none ∙ ap (λ (s : State). s.fault) same in cc)
+  -- a line that is kept, or ignored
+  taken : (line : List ℕ) → line ≢ codes "." → (fault : Option Fault) → old.fault ≡ fault
+      → TakesLine fault old line new → Moves old (Some sent) envelope (Some line) None new
+  taken line other (Some fault) bad same =
+      goes_on (Some line) (λ e. other (ap text_in e))
+      (subst (Keeps old []) (sym same) (keeps_none old)) (ap (λ (s : State). s.stage) same)
+      (subst (λ (s : State). s.draft ≡ record old.draft { text = s.draft.text }) (sym same) refl)
+      (λ none. let e : None ≡ Some fault =
+      sym none ∙ (ap (λ (s : State). s.fault) same ∙ bad) in cc)
+  taken line other None whole keeps = elim keeps [
+    | inl fits ↦
+        goes_on (Some line) (λ e. other (ap text_in e))
+        (subst (Keeps old []) (sym fits.1) (keeps_none old)) (ap (λ (s : State). s.stage) fits.1)
+        (subst (λ (s : State). s.draft ≡ record old.draft { text = s.draft.text }) (sym fits.1)
+        refl)
+        (λ none. subst (λ (s : State). IsText (sent ++ Some line ∷ []) s.draft.text)
+        (sym fits.1) (text_more sent old.draft.text line (inside.2 whole)))
+    | inr (inl large) ↦ spoils (Some line) TooLarge (λ e. other (ap text_in e)) large.1
+    | inr (inr memory) ↦ spoils (Some line) NoMemory (λ e. other (ap text_in e)) memory
+  ]
+
+  -- a line of a message
+  in_line : (line : List ℕ) (said : Option Reply) → AnswersLine old line said new
+      → Moves old (Some sent) envelope (Some line) said new
+  in_line line said answers = elim answers [
+    | inl dot ↦
+        subst (λ r. Moves old (Some sent) envelope (Some line) r new) (sym dot.1.1)
+        (subst (λ l. Moves old (Some sent) envelope (Some l) (Some dot.1.0) new) (sym dot.0)
+        (ended dot.1.0 old.fault refl dot.1.2))
+    | inr text ↦ subst (λ r. Moves old (Some sent) envelope (Some line) r new) (sym text.1)
+        (taken line text.0 old.fault refl text.2)
+  ]
+
+  -- a line of a message that was rejected
+  refused : (error : LineError) (said : Option Reply) → RefusesAt Lines old error said new
+      → Moves old (Some sent) envelope None said new
+  refused error said (silent, same) =
+      subst (λ r. Moves old (Some sent) envelope None r new) (sym silent)
+      (goes_on None (λ is. cc) (subst (Keeps old []) (sym same) (keeps_none old))
+      (ap (λ (s : State). s.stage) same)
+      (subst (λ (s : State). s.draft ≡ record old.draft { text = s.draft.text }) (sym same) refl)
+      (λ none. let e : None ≡ Some (first_fault old.fault error) =
+      sym none ∙ ap (λ (s : State). s.fault) same in cc))
 
 -- ---- any exchange
 
@@ -329,128 +391,145 @@ module _ (old new : State) (said : Option Reply) where
   refuses_outside error Lines apart refuses = absurd (apart refl)
 
   -- a line
-  moves : (input : Line) (begun : Option Sent) → Inside begun old
-      → AnswersInput old input said new → Moves old begun (Some input.body) said new
-  moves input begun inside answers = elim answers [
+  moves : (input : Line) (begun : Option Sent) (envelope : Mail) → Inside begun envelope old
+      → AnswersInput old input said new → Moves old begun envelope (Some input.body) said new
+  moves input begun envelope inside answers = elim answers [
     | inl cut ↦
-        quiet old new begun (Some input.body) said (ap part_of cut.1)
-        (λ l. let e : Greeting ≡ Lines = ap (λ (s : State). s.stage) (sym cut.2) ∙ l in cc)
-        (subst (Keeps old []) (sym cut.2) (keeps_none old))
+        subst (λ r. Moves old begun envelope (Some input.body) r new) (sym cut.1)
+        (subst (Moves old begun envelope (Some input.body) (Some reply.CutOff)) (sym cut.2)
+        (quiet old (idle Greeting old.left old.count old.folder) begun envelope (Some input.body)
+        reply.CutOff refl (cut_off begun) (λ l. cc) (keeps_none old)))
     | inr whole ↦ at begun inside whole.1
   ]
     where
-      at : (begun : Option Sent) → Inside begun old → AnswersAt old.stage old input.body said new
-          → Moves old begun (Some input.body) said new
-      at None apart answers =
-          let (reply, is, command) = answers_outside input.body old.stage apart answers in
-          outside old new input.body said apart reply is command
-      at (Some sent) inside answers = in_line old new sent said inside input.body
+      cut_off : (begun : Option Sent)
+          → Addresses begun envelope (Some input.body) (Some reply.CutOff) no_mail
+      cut_off None = refl
+      cut_off (Some sent) = refl
+
+      at : (begun : Option Sent) → Inside begun envelope old
+          → AnswersAt old.stage old input.body said new
+          → Moves old begun envelope (Some input.body) said new
+      at None outside answers =
+          let (reply, is, command) = answers_outside input.body old.stage outside.0 answers in
+          subst (λ r. Moves old None envelope (Some input.body) r new) (sym is)
+          (command_moves old new envelope input.body outside reply command)
+      at (Some sent) inside answers = in_line old new sent envelope inside input.body said
           (subst (λ s. AnswersAt s old input.body said new) inside.0 answers)
 
   -- a line that was rejected
-  moves_rejected : (error : LineError) (begun : Option Sent) → Inside begun old
-      → RefusesAt old.stage old error said new → Moves old begun None said new
-  moves_rejected error None apart refuses =
-      let (is, same) = refuses_outside error old.stage apart refuses in
-      stays old new None None said (ap part_of is ∙ refusal_part error) apart same
-  moves_rejected error (Some sent) inside refuses = refused old new sent said inside error
+  moves_rejected : (error : LineError) (begun : Option Sent) (envelope : Mail)
+      → Inside begun envelope old → RefusesAt old.stage old error said new
+      → Moves old begun envelope None said new
+  moves_rejected error None envelope outside refuses =
+      let (is, same) = refuses_outside error old.stage outside.0 refuses in
+      subst (λ r. Moves old None envelope None r new) (sym is)
+      (stays old new envelope None outside same (refusal_of error) (refusal_part error)
+      (refusal_addresses error envelope))
+  moves_rejected error (Some sent) envelope inside refuses =
+      refused old new sent envelope inside error said
       (subst (λ s. RefusesAt s old error said new) inside.0 refuses)
 
 -- ---- errors
 
 -- no message begins or is delivered by the reply to an error
 error_part : (said : Reply) → is_error said ≡ true → part_of (Some said) ≡ ends
-error_part reply.SendLines is = absurd (false≢true is)
-error_part reply.Received is = absurd (false≢true is)
-error_part reply.Bye is = refl
-error_part reply.Done is = refl
-error_part reply.Extensions is = refl
-error_part reply.Unverified is = refl
-error_part reply.TooManyRecipients is = refl
-error_part reply.UnknownCommand is = refl
-error_part reply.BadArgument is = refl
-error_part reply.UnknownParameter is = refl
-error_part reply.BadSequence is = refl
-error_part reply.LongLine is = refl
-error_part reply.BadLine is = refl
-error_part reply.CutOff is = refl
-error_part reply.NoMemory is = refl
-error_part reply.BadMessage is = refl
-error_part reply.OtherBytes is = refl
-error_part reply.LargeMessage is = refl
-error_part reply.NotStored is = refl
-error_part reply.Closing is = refl
+error_part said is = grind (arith, false≢true)
+
+-- and it leaves the envelope as the last one does
+module _ (envelope : Mail) (line : Option (List ℕ)) (after : Mail) where
+  closes : (begun : Option Sent) (said : Reply) → is_error said ≡ true
+      → Addresses begun envelope line (Some said) after
+      → Addresses begun envelope line (Some reply.Closing) after
+  closes (Some sent) said is addresses = addresses
+  closes None said is addresses = grind (arith, false≢true)
 
 -- the same session, with another count of errors
-inside_left : (begun : Option Sent) (state : State) (left : ℕ) → Inside begun state
-    → Inside begun (record state { left = left })
-inside_left None state left apart = apart
-inside_left (Some sent) state left inside = inside
+inside_left : (begun : Option Sent) (envelope : Mail) (state : State) (left : ℕ)
+    → Inside begun envelope state → Inside begun envelope (record state { left = left })
+inside_left None envelope state left apart = apart
+inside_left (Some sent) envelope state left inside = inside
 
-module _ (old mid new : State) (begun : Option Sent) (line : Option (List ℕ)) where
-  -- another reply of the same part, and another count
-  relabel : (said given : Option Reply) (left : ℕ) → part_of given ≡ part_of said
-      → new ≡ record mid { left = left } → Moves old begun line said mid
-      → Moves old begun line given new
-  relabel said given left part same moved = subst (Moves old begun line given) (sym same) (record {
-    mails = moved.mails;
-    brings = subst (λ p. Brings p begun line moved.mails) (sym part) moved.brings;
-    stored = moved.stored;
-    inside = subst (λ p. Inside (begun_after p begun line) (record mid { left = left }))
-        (sym part) (inside_left (begun_after (part_of said) begun line) mid left moved.inside);
-  })
+module _ (old mid new : State) (begun : Option Sent) (envelope : Mail) (line : Option (List ℕ))
+  where
+    -- another reply of the same part, and another count
+    relabel : (said given : Option Reply) (left : ℕ) → part_of given ≡ part_of said
+        → ((after : Mail) → Addresses begun envelope line said after
+        → Addresses begun envelope line given after)
+        → new ≡ record mid { left = left } → Moves old begun envelope line said mid
+        → Moves old begun envelope line given new
+    relabel said given left part left_by same moved =
+        subst (Moves old begun envelope line given) (sym same) (record {
+          mails = moved.mails;
+          after = moved.after;
+          brings = subst (λ p. Brings p begun envelope line moved.mails) (sym part) moved.brings;
+          addresses = left_by moved.after moved.addresses;
+          stored = moved.stored;
+          inside = subst
+              (λ p. Inside (begun_after p begun line) moved.after (record mid { left = left }))
+              (sym part)
+              (inside_left (begun_after (part_of said) begun line) moved.after mid left moved.inside);
+        })
 
-  -- errors are counted
-  counted : (said given : Option Reply) → Counts mid said given new
-      → Moves old begun line said mid → Moves old begun line given new
-  counted None given (is, same) moved =
-      relabel None given mid.left (ap part_of is) same moved
-  counted (Some said) given counts moved = by (is_error said) refl counts
-    where
-      by : (b : Bool) → is_error said ≡ b → CountsBy b mid said given new
-          → Moves old begun line given new
-      by false is (shown, same) = relabel (Some said) given mid.left (ap part_of shown) same moved
-      by true is counts = elim counts [
-        | inl last ↦
-            relabel (Some said) given mid.left
-            (ap part_of last.1 ∙ sym (error_part said is)) last.2 moved
-        | inr more ↦
-            relabel (Some said) given (mid.left - 1) (ap part_of more.1) more.2 moved
-      ]
+    -- errors are counted
+    counted : (said given : Option Reply) → Counts mid said given new
+        → Moves old begun envelope line said mid → Moves old begun envelope line given new
+    counted None given (is, same) moved = relabel None given mid.left (ap part_of is)
+        (λ after a. subst (λ r. Addresses begun envelope line r after) (sym is) a) same moved
+    counted (Some said) given counts moved = by (is_error said) refl counts
+      where
+        kept : given ≡ Some said → (after : Mail) → Addresses begun envelope line (Some said) after
+            → Addresses begun envelope line given after
+        kept is after a = subst (λ r. Addresses begun envelope line r after) (sym is) a
+
+        by : (b : Bool) → is_error said ≡ b → CountsBy b mid said given new
+            → Moves old begun envelope line given new
+        by false is (shown, same) =
+            relabel (Some said) given mid.left (ap part_of shown) (kept shown) same moved
+        by true is counts = elim counts [
+          | inl last ↦
+              relabel (Some said) given mid.left
+              (ap part_of last.1 ∙ sym (error_part said is))
+              (λ after a. subst (λ r. Addresses begun envelope line r after) (sym last.1)
+              (closes envelope line after begun said is a)) last.2 moved
+          | inr more ↦
+              relabel (Some said) given (mid.left - 1) (ap part_of more.1) (kept more.1) more.2 moved
+        ]
 
 -- ---- the steps of a conversation
 
 module _ (first : ChannelState) (events : List Event) (endings : Endings) (size : ℕ)
     (now : Supply) where
   -- what the steps that come after the steps `past` deliver
-  pub record Tells (past : List Step) (begun : Option Sent) (old : State) (steps : List Step)
-      (new : State) : Type 0 where
+  pub record Tells (past : List Step) (begun : Option Sent) (envelope : Mail) (old : State)
+      (steps : List Step) (new : State) : Type 0 where
     pub exchanges : List Exchange
     pub mails : List (List ℕ)
     pub are : AreExchanges first events past steps exchanges
-    pub delivers : Delivers begun exchanges mails
+    pub delivers : Delivers begun envelope exchanges mails
     pub stored : Keeps old mails new
 
   -- an exchange comes before others
-  cons_exchange : (past : List Step) (begun : Option Sent) (old mid new : State)
-      (line : Option (List ℕ)) (said : Option Reply) (exchanges : List Exchange)
-      (mails : List (List ℕ)) (moved : Moves old begun line said mid)
-      → Delivers (begun_after (part_of said) begun line) exchanges mails
+  cons_exchange : (past : List Step) (begun : Option Sent) (envelope : Mail)
+      (old mid new : State) (line : Option (List ℕ)) (said : Option Reply)
+      (exchanges : List Exchange) (mails : List (List ℕ))
+      (moved : Moves old begun envelope line said mid)
+      → Delivers (begun_after (part_of said) begun line) moved.after exchanges mails
       → Keeps mid mails new
-      → Delivers begun (record { line = line; reply = said } ∷ exchanges) (moved.mails ++ mails)
-      × Keeps old (moved.mails ++ mails) new
-  cons_exchange past begun old mid new line said exchanges mails moved delivers stored = (
-    (moved.mails, mails, refl, moved.brings, delivers),
+      → Delivers begun envelope (record { line = line; reply = said } ∷ exchanges)
+      (moved.mails ++ mails) × Keeps old (moved.mails ++ mails) new
+  cons_exchange past begun envelope old mid new line said exchanges mails moved delivers stored = (
+    (moved.mails, mails, moved.after, refl, moved.brings, moved.addresses, delivers),
     keeps_then old mid new moved.mails mails moved.stored stored,
   )
 
   -- the steps from a place on
-  pub tells : (a b : Place State) (past steps : List Step) (begun : Option Sent)
-      → Inside begun a.handler
+  pub tells : (a b : Place State) (past steps : List Step) (begun : Option Sent) (envelope : Mail)
+      → Inside begun envelope a.handler
       → Turns session_answers session_refuses endings size now a steps b
       → AtEachSending (AreSentFirst first events) past steps
-      → Tells past begun a.handler steps b.handler
-  tells a b past [] begun inside same ordered = record {
+      → Tells past begun envelope a.handler steps b.handler
+  tells a b past [] begun envelope inside same ordered = record {
     exchanges = [];
     mails = [];
     are = refl;
@@ -458,22 +537,23 @@ module _ (first : ChannelState) (events : List Event) (endings : Endings) (size 
     stored = subst (λ (p : Place State). Keeps a.handler [] p.handler) (sym same)
         (keeps_none a.handler);
   }
-  tells a b past (step ∷ steps) begun inside (mid, turn, turns) ordered = go a.awaited step
+  tells a b past (step ∷ steps) begun envelope inside (mid, turn, turns) ordered = go a.awaited step
       (AtEachSending-after (AreSentFirst first events) past (step ∷ []) steps ordered)
-      (λ begun inside. tells mid b (past ++ step ∷ []) steps begun inside turns
+      (λ begun envelope inside. tells mid b (past ++ step ∷ []) steps begun envelope inside turns
       (AtEachSending-after (AreSentFirst first events) past (step ∷ []) steps ordered)) turn
     where
       -- a step that is not an exchange
       skips : (step : Step) → mid.handler ≡ a.handler
-          → ((begun : Option Sent) → Inside begun mid.handler
-          → Tells (past ++ step ∷ []) begun mid.handler steps b.handler)
-          → Tells (past ++ step ∷ []) begun a.handler steps b.handler
+          → ((begun : Option Sent) (envelope : Mail) → Inside begun envelope mid.handler
+          → Tells (past ++ step ∷ []) begun envelope mid.handler steps b.handler)
+          → Tells (past ++ step ∷ []) begun envelope a.handler steps b.handler
       skips step same rest =
-          subst (λ (s : State). Tells (past ++ step ∷ []) begun s steps b.handler) same
-          (rest begun (subst (Inside begun) (sym same) inside))
+          subst (λ (s : State). Tells (past ++ step ∷ []) begun envelope s steps b.handler) same
+          (rest begun envelope (subst (Inside begun envelope) (sym same) inside))
 
-      passed : (bytes : List ℕ) → Tells (past ++ skipped bytes ∷ []) begun a.handler steps b.handler
-          → Tells past begun a.handler (skipped bytes ∷ steps) b.handler
+      passed : (bytes : List ℕ)
+          → Tells (past ++ skipped bytes ∷ []) begun envelope a.handler steps b.handler
+          → Tells past begun envelope a.handler (skipped bytes ∷ steps) b.handler
       passed bytes others = record {
         exchanges = others.exchanges;
         mails = others.mails;
@@ -482,8 +562,8 @@ module _ (first : ChannelState) (events : List Event) (endings : Endings) (size 
         stored = others.stored;
       }
 
-      passed_sending : Tells (past ++ sent_out ∷ []) begun a.handler steps b.handler
-          → Tells past begun a.handler (sent_out ∷ steps) b.handler
+      passed_sending : Tells (past ++ sent_out ∷ []) begun envelope a.handler steps b.handler
+          → Tells past begun envelope a.handler (sent_out ∷ steps) b.handler
       passed_sending others = record {
         exchanges = others.exchanges;
         mails = others.mails;
@@ -494,17 +574,19 @@ module _ (first : ChannelState) (events : List Event) (endings : Endings) (size 
 
       go : (awaited : Awaited) (step : Step)
           → AtEachSending (AreSentFirst first events) (past ++ step ∷ []) steps
-          → ((begun : Option Sent) → Inside begun mid.handler
-          → Tells (past ++ step ∷ []) begun mid.handler steps b.handler)
+          → ((begun : Option Sent) (envelope : Mail) → Inside begun envelope mid.handler
+          → Tells (past ++ step ∷ []) begun envelope mid.handler steps b.handler)
           → IsTurnAt session_answers session_refuses endings size now awaited a step mid
-          → Tells past begun a.handler (step ∷ steps) b.handler
+          → Tells past begun envelope a.handler (step ∷ steps) b.handler
       go (Input asked) (took input replies) then rest t =
           let (first_said, said, halfway, answers, counts, is, asks) = t.8 in
-          let moved = counted a.handler halfway mid.handler begun (Some input.body) first_said said
-          counts (moves a.handler halfway first_said input begun inside answers) in
-          let others = rest (begun_after (part_of said) begun (Some input.body)) moved.inside in
-          let more = cons_exchange past begun a.handler mid.handler b.handler (Some input.body)
-          said others.exchanges others.mails moved others.delivers others.stored in
+          let moved = counted a.handler halfway mid.handler begun envelope (Some input.body)
+          first_said said counts
+          (moves a.handler halfway first_said input begun envelope inside answers) in
+          let others = rest (begun_after (part_of said) begun (Some input.body)) moved.after
+          moved.inside in
+          let more = cons_exchange past begun envelope a.handler mid.handler b.handler
+          (Some input.body) said others.exchanges others.mails moved others.delivers others.stored in
           record {
             exchanges = record { line = Some input.body; reply = said } ∷ others.exchanges;
             mails = moved.mails ++ others.mails;
@@ -523,10 +605,10 @@ module _ (first : ChannelState) (events : List Event) (endings : Endings) (size 
           }
       go (Input asked) (serve.rejected error replies) then rest t =
           let (first_said, said, halfway, refuses, counts, is, asks) = t.5 in
-          let moved = counted a.handler halfway mid.handler begun None first_said said counts
-          (moves_rejected a.handler halfway first_said error begun inside refuses) in
-          let others = rest (begun_after (part_of said) begun None) moved.inside in
-          let more = cons_exchange past begun a.handler mid.handler b.handler None said
+          let moved = counted a.handler halfway mid.handler begun envelope None first_said said
+          counts (moves_rejected a.handler halfway first_said error begun envelope inside refuses) in
+          let others = rest (begun_after (part_of said) begun None) moved.after moved.inside in
+          let more = cons_exchange past begun envelope a.handler mid.handler b.handler None said
           others.exchanges others.mails moved others.delivers others.stored in
           record {
             exchanges = record { line = None; reply = said } ∷ others.exchanges;

@@ -7,10 +7,12 @@ use Rattle.ascii_lines.specs.Exchanges.{bytes_of, given_in, said_in}
 use Rattle.ascii_lines.specs.Replies.{Step, rejected, reply_bytes, took}
 use Rattle.ascii_lines.specs.Serve.{AreSentFirst, ChannelState, Wrote}
 use Rattle.ascii_lines.specs.declared.serving.Stop.{Stop}
-use Rattle.example_smtp.specs.Mail.{Keeps, Mail, State, file_of, text_of_lines}
-use Rattle.example_smtp.specs.Session.{reply_lines}
+use Rattle.example_smtp.specs.Commands.{Says}
+use Rattle.example_smtp.specs.Mail.{Keeps, Mail, State, file_of, no_mail, text_of_lines}
+use Rattle.example_smtp.specs.Session.{envelope_after, reply_lines}
+use Rattle.example_smtp.specs.declared.commands.Command.{Command}
 use Rattle.example_smtp.specs.declared.commands.Reply.{Reply}
-use Rattle.example_smtp.specs.declared.commands.Reply.TheVariants.{Received, SendLines}
+use Rattle.example_smtp.specs.declared.commands.Reply.TheVariants.{CutOff, Done, Extensions, Received, SendLines}
 
 -- ---- messages
 
@@ -49,21 +51,35 @@ abbrev pub IsText : Sent → List ℕ → Type 0
 IsText sent text = (lines : List (List ℕ)) × (sent ≡ map Some lines)
     × (text ≡ text_of_lines lines)
 
--- the mails that an exchange with this line delivers: one, if it is a dot after the lines of a
--- message, whose text is that of these; no other exchange does
-abbrev pub Brings : Part → Option Sent → Option (List ℕ) → List (List ℕ) → Type 0
-Brings delivers (Some sent) line mails = (mail : Mail) × (mails ≡ file_of mail ∷ [])
-    × IsText sent mail.text × (line ≡ Some (codes "."))
-Brings delivers None line mails = ⊥
-Brings goes_on (Some sent) line mails = (mails ≡ []) × (line ≢ Some (codes "."))
-Brings other begun line mails = mails ≡ []
+-- the envelope after an exchange: outside a message, that after the command that the line says, if
+-- the reply is 250; none after EHLO, and after a line that was cut off. A message has it to its end
+abbrev pub Addresses : Option Sent → Mail → Option (List ℕ) → Option Reply → Mail → Type 0
+Addresses None old (Some line) (Some Done) new =
+    (command : Command) × Says line command × (new ≡ envelope_after old command)
+Addresses None old line (Some Extensions) new = new ≡ no_mail
+Addresses None old line (Some CutOff) new = new ≡ no_mail
+Addresses None old line said new = new ≡ old
+Addresses (Some sent) old line None new = new ≡ old
+Addresses (Some sent) old line (Some said) new = new ≡ no_mail
 
--- the mails that exchanges deliver, after what was sent of a message, if one is begun
-abbrev pub Delivers : Option Sent → List Exchange → List (List ℕ) → Type 0
-Delivers begun [] mails = mails ≡ []
-Delivers begun (exchange ∷ exchanges) mails = (first : List (List ℕ)) × (others : List (List ℕ))
-    × (mails ≡ first ++ others) × Brings (part_of exchange.reply) begun exchange.line first
-    × Delivers (begun_after (part_of exchange.reply) begun exchange.line) exchanges others
+-- the mails that an exchange with this line delivers: one, if it is a dot after the lines of a
+-- message, with this envelope, and whose text is that of these; no other exchange does
+abbrev pub Brings : Part → Option Sent → Mail → Option (List ℕ) → List (List ℕ) → Type 0
+Brings delivers (Some sent) envelope line mails = (text : List ℕ) × IsText sent text
+    × (mails ≡ file_of (record envelope { text = text }) ∷ []) × (line ≡ Some (codes "."))
+Brings delivers None envelope line mails = ⊥
+Brings goes_on (Some sent) envelope line mails = (mails ≡ []) × (line ≢ Some (codes "."))
+Brings other begun envelope line mails = mails ≡ []
+
+-- the mails that exchanges deliver, after what was sent of a message, if one is begun, and this
+-- envelope
+abbrev pub Delivers : Option Sent → Mail → List Exchange → List (List ℕ) → Type 0
+Delivers begun envelope [] mails = mails ≡ []
+Delivers begun envelope (exchange ∷ exchanges) mails =
+    (first : List (List ℕ)) × (others : List (List ℕ)) × (after : Mail) × (mails ≡ first ++ others)
+    × Brings (part_of exchange.reply) begun envelope exchange.line first
+    × Addresses begun envelope exchange.line exchange.reply after
+    × Delivers (begun_after (part_of exchange.reply) begun exchange.line) after exchanges others
 
 -- ---- the whole session
 
@@ -104,5 +120,5 @@ pub record Receives (old : ChannelState) (session : State) (why : Stop) (new : C
   pub exchanges : List Exchange
   pub are : AreExchanges old events [] steps exchanges
   pub mails : List (List ℕ)
-  pub delivers : Delivers None exchanges mails
+  pub delivers : Delivers None no_mail exchanges mails
   pub stored : Keeps session mails last

@@ -14,7 +14,7 @@ use Rattle.ascii_lines.specs.declared.line_reader.LineError.TheVariants.{LoneBre
 use Rattle.ascii_lines.specs.declared.serving.Next.{Next}
 use Rattle.ascii_lines.specs.declared.serving.Next.TheVariants as next
 use Rattle.example_smtp.specs.Commands.{IsForeign, ReadsCommand, most_bytes, reply_line}
-use Rattle.example_smtp.specs.Mail.{Keeps, State, file_of, idle, no_mail, unstuffed}
+use Rattle.example_smtp.specs.Mail.{Keeps, Mail, State, file_of, idle, no_mail, unstuffed}
 use Rattle.example_smtp.specs.declared.commands.Command.{Command}
 use Rattle.example_smtp.specs.declared.commands.Command.TheVariants.{AddRecipient, BeginLines, Extend}
 use Rattle.example_smtp.specs.declared.commands.Command.TheVariants.{Introduce, Leave, Reset}
@@ -58,16 +58,25 @@ abbrev pub reset_stage : Stage → Stage
 reset_stage Greeting = Greeting
 reset_stage other = Ready
 
+-- the envelope after a command that is carried out: it has a sender; or one recipient more; or is
+-- none; or stays
+abbrev pub envelope_after : Mail → Command → Mail
+envelope_after old (SetSender address) = record no_mail { sender = text_of address }
+envelope_after old (AddRecipient address) =
+    record old { recipients = old.recipients ++ text_of address ∷ [] }
+envelope_after old (Introduce domain) = no_mail
+envelope_after old (Extend domain) = no_mail
+envelope_after old Reset = no_mail
+envelope_after old other = old
+
 -- the state after a command that is allowed
 abbrev pub after : State → Command → State
 after old (Introduce domain) = record old { stage = Ready; draft = no_mail }
 after old (Extend domain) = record old { stage = Ready; draft = no_mail }
 after old (SetSender address) =
-    record old { stage = Sender; draft = record no_mail { sender = text_of address } }
-after old (AddRecipient address) = record old {
-  stage = Recipients;
-  draft = record old.draft { recipients = old.draft.recipients ++ text_of address ∷ [] };
-}
+    record old { stage = Sender; draft = envelope_after old.draft (SetSender address) }
+after old (AddRecipient address) =
+    record old { stage = Recipients; draft = envelope_after old.draft (AddRecipient address) }
 after old BeginLines =
     record old { stage = Lines; draft = record old.draft { text = [] }; fault = None }
 after old Reset = record old { stage = reset_stage old.stage; draft = no_mail }

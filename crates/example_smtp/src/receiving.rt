@@ -11,8 +11,8 @@ use ascii_lines::{Channel, LineChannel, Stop, serve};
 use std::alloc::Allocator;
 
 /// Receives mail until the client leaves, the input ends, or an error occurs, and returns why it stopped. The folder
-/// has stored each message that got its 250, once and whole, after an envelope; and nothing that was there was
-/// replaced or removed. The session has counted them.
+/// has stored each message that got its 250, once and whole, after the envelope of the commands before it that got
+/// theirs; and nothing that was there was replaced or removed. The session has counted them.
 ///
 /// Condition: no call of the device to write has failed, and the session is a new one.
 pub fn receive<C: Channel, A: Allocator, F: Folder>(
