@@ -86,7 +86,7 @@ impl<K: Sink, A: Allocator> Replies<K, A> {
     ///
     ///     let writer = LineWriter::new(alloc, Output::new(Vec::new(alloc)), 64)?;
     ///     let mut replies = Replies::new(writer, Ending::Lf);
-    ///     Echo.answer(Received::of_text(AsciiStr::literal("ab"), Ending::Lf), &mut replies) // Line
+    ///     Echo.answer(Received::new(b"ab", Ending::Lf), &mut replies) // Line
     ///     let mut writer = replies.into_writer();
     ///     writer.flush() // Ok(())
     ///     writer.into_sink().into_inner() // [97, 98, 10]
@@ -288,11 +288,23 @@ impl<'a> Model for Received<'a> {
 impl<'a> Received<'a> {
     ghost use Rattle.std.specs.Prelude.{MatchOption};
 
-    /// Creates a text as a handler is given it: a line with this ending, or a part without one. A conversation makes
-    /// what it hands to its handler; this is for handlers that are asked without one.
+    /// Creates what a handler is given: the bytes of a line with this ending, or of a part without one. A conversation
+    /// makes what it hands to its handler; this is for a handler that is asked without one.
     ///
-    ///     Received::of_text(AsciiStr::literal("ab"), Ending::Lf).bytes() // [97, 98]
-    pub fn of_text(text: AsciiStr<'a>, ending: Ending) -> Received<'a>
+    ///     Received::new(b"ab", Ending::Lf).ending() // Lf
+    ///     Received::new(b"\xff", Ending::Absent).bytes() // [255]
+    pub fn new(bytes: &'a [u8], ending: Ending) -> Received<'a>
+        ensures { result ≡ record { body = bytes.now; ending = ending } }
+    {
+        Received {
+            bytes,
+            ending,
+            is_text: false,
+        }
+    }
+
+    /// The same of a text.
+    fn of_text(text: AsciiStr<'a>, ending: Ending) -> Received<'a>
         ensures { result ≡ line_with text.entry ending }
     {
         Received {
@@ -302,25 +314,12 @@ impl<'a> Received<'a> {
         }
     }
 
-    /// Creates a part of any bytes as a handler is given it.
-    ///
-    ///     Received::of_bytes(b"ÿ").text() // None
-    pub fn of_bytes(bytes: &'a [u8]) -> Received<'a>
-        ensures { result ≡ record { body = bytes.now; ending = Ending.Absent } }
-    {
-        Received {
-            bytes,
-            ending: Ending::Absent,
-            is_text: false,
-        }
-    }
-
     /// Returns the text, or `None` if the bytes are not ASCII. What was asked for as text is always one.
     ///
     /// Constant time for what was asked for as text; otherwise the bytes are checked.
     ///
-    ///     Received::of_bytes(b"ab").text() // Some("ab")
-    ///     Received::of_bytes(b"aÿ").text() // None
+    ///     Received::new(b"ab", Ending::Lf).text() // Some("ab")
+    ///     Received::new(b"a\xff", Ending::Absent).text() // None
     #[tactic(auto, using(ascii::proofs::TextLemmas::no_text))]
     pub fn text(&self) -> Option<AsciiStr<'a>>
         ensures { MatchOption result (¬ (IsAscii self.now.body))
@@ -337,7 +336,7 @@ impl<'a> Received<'a> {
 
     /// Returns the bytes, without the ending of a line.
     ///
-    ///     Received::of_bytes(b"aÿ").bytes() // [97, 255]
+    ///     Received::new(b"a\xff", Ending::Absent).bytes() // [97, 255]
     pub fn bytes(&self) -> &'a [u8]
         ensures { result.now ≡ self.now.body }
     {
@@ -346,8 +345,8 @@ impl<'a> Received<'a> {
 
     /// Returns the ending of a line. A part has none, nor may the last line of the input.
     ///
-    ///     Received::of_text(AsciiStr::literal("ab"), Ending::Lf).ending() // Lf
-    ///     Received::of_bytes(b"ab").ending() // Absent
+    ///     Received::new(b"ab", Ending::Lf).ending() // Lf
+    ///     Received::new(b"ab", Ending::Absent).ending() // Absent
     pub fn ending(&self) -> Ending
         ensures { result ≡ self.now.ending }
     {
@@ -378,7 +377,7 @@ pub trait Handler {
     ///
     ///     let writer = LineWriter::new(alloc, Output::new(Vec::new(alloc)), 64)?;
     ///     let mut replies = Replies::new(writer, Ending::CrLf);
-    ///     Echo.answer(Received::of_text(AsciiStr::literal("ab"), Ending::CrLf), &mut replies) // Line
+    ///     Echo.answer(Received::new(b"ab", Ending::CrLf), &mut replies) // Line
     ///     let mut writer = replies.into_writer();
     ///     writer.flush() // Ok(())
     ///     writer.into_sink().into_inner() // [97, 98, 13, 10]
@@ -632,13 +631,9 @@ pub(crate) fn received_at(wanted: Wanted, bytes: &[u8]) -> Received<'_>
         }
         Wanted::Line(endings, Content::Any) => {
             let (bytes, ending) = split_ending(endings, bytes);
-            Received {
-                bytes,
-                ending,
-                is_text: false,
-            }
+            Received::new(bytes, ending)
         }
-        Wanted::Part(_, Content::Any) => Received::of_bytes(bytes),
+        Wanted::Part(_, Content::Any) => Received::new(bytes, Ending::Absent),
         Wanted::Part(_, Content::Text) | Wanted::Until(_) => {
             Received::of_text(bytes::as_ascii_str_unchecked(bytes), Ending::Absent)
         }
