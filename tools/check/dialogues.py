@@ -1,8 +1,10 @@
 """Dialogues of real clients with the example servers: a connection is the standard input and output of the program."""
+import email.utils
 import errno
 import fcntl
 import itertools
 import random
+import re
 import select
 import shutil
 import smtplib
@@ -37,7 +39,8 @@ class Dialogue(NamedTuple):
 
 BEGUN = (b"HELO c\r\nMAIL FROM:<a@b>\r\nRCPT TO:<c@d>\r\nDATA\r\n", b"250 OK\r\n" * 3 + b"354 send the lines\r\n")
 MAIL = BEGUN[0] + b"Subject: x\r\n\r\n..dot\r\n.\r\nQUIT\r\n"
-ENVELOPE = b"Return-Path: <a@b>\r\nDelivered-To: c@d\r\n"
+DATED = b"Received: by localhost; NOW\r\n"
+ENVELOPE = b"Return-Path: <a@b>\r\nDelivered-To: c@d\r\n" + DATED
 MAILED = BEGUN[1] + b"250 OK\r\n221 bye\r\n"
 HELLO = (b"", b"220 ready\r\n")
 BAD = b"554 bad line\r\n"
@@ -260,6 +263,13 @@ class TalksInPieces(Talks):
         return got
 
 
+def dated(mail):
+    """The text of a mail, with NOW in place of its date, if that is one by the form of mails and less than a minute old."""
+    date = re.search(rb"(?<=\r\nReceived: by localhost; )[^\r\n]*(?=\r\n)", mail)
+    age = time.time() - email.utils.parsedate_to_datetime(date[0].decode()).timestamp() if date else 60
+    return mail[:date.start()] + b"NOW" + mail[date.end():] if -2 < age < 60 else mail
+
+
 def taken(connection, most):
     """The bytes that have come, of these as many at most."""
     return connection.recv(most) if select.select([connection], [], [], 0)[0] else b""
@@ -311,7 +321,7 @@ class StoresMail(unittest.TestCase):
     SAID = BEGUN[1] + OK + BEGUN[1] + OTHER_BYTES + BEGUN[1] + b"554 bad message\r\n" + BEGUN[1]
     ROWS = [
         ([], TWO, SAID + OK, [ENVELOPE + b"one\r\n.\r\n\r\n", ENVELOPE + b"three\r\n"]),
-        ([], MANY, OK * 4 + b"354 send the lines\r\n" + OK, [b"Return-Path: <>\r\nDelivered-To: \"a b\"@c\r\nDelivered-To: Postmaster\r\n"]),
+        ([], MANY, OK * 4 + b"354 send the lines\r\n" + OK, [b"Return-Path: <>\r\nDelivered-To: \"a b\"@c\r\nDelivered-To: Postmaster\r\n" + DATED]),
         (["tmp"], BEGUN[0] + b"one\r\n.\r\nNOOP\r\n", BEGUN[1] + b"451 not stored\r\n" + OK, []),
         (["new"], BEGUN[0] + b"one\r\n.\r\nNOOP\r\n", BEGUN[1] + b"451 not stored\r\n" + OK, []),
     ]
@@ -332,7 +342,7 @@ class StoresMail(unittest.TestCase):
                     client.sendall(sent)
                     client.shutdown(socket.SHUT_WR)
                     self.assertEqual(received(client, 1 << 16), wanted, removed)
-                self.assertEqual([it.read_bytes() for it in sorted((folder / "new").glob("*"))], texts, removed)
+                self.assertEqual([dated(it.read_bytes()) for it in sorted((folder / "new").glob("*"))], texts, removed)
                 self.assertEqual([it.name for it in sorted(folder.iterdir())], sorted({"cur", "new", "tmp"} - {*removed}))
                 self.assertEqual(list((folder / "tmp").glob("*")), [])
 
@@ -383,7 +393,8 @@ class StoresInOrder(unittest.TestCase):
                 self.skipTest(f"processes cannot be traced here: {why}")
         steps = self.steps(calls, folder)
         stored = ["create tmp", ENVELOPE + self.TEXT, "sync tmp", "link tmp new", "sync new", "unlink tmp", "reply"]
-        self.assertEqual(steps[steps.index("create tmp"):], stored * self.MAILS)
+        told = [dated(step) if isinstance(step, bytes) else step for step in steps[steps.index("create tmp"):]]
+        self.assertEqual(told, stored * self.MAILS)
 
     @staticmethod
     def steps(calls, folder):
@@ -430,7 +441,7 @@ class SurvivesFailures(unittest.TestCase):
                 self.skipTest(f"processes cannot be traced here: {why}")
             said.seek(0)
             parts = said.read().removeprefix(HELLO[1]).split(BEGUN[1])[1:]
-            read = lambda name: sorted(it.read_bytes() for it in (Path(folder) / name).glob("*"))
+            read = lambda name: sorted(dated(it.read_bytes()) for it in (Path(folder) / name).glob("*"))
             return calls, parts, read("new"), read("tmp")
 
     def runTest(self):

@@ -293,16 +293,18 @@ module _ (old new : State) (sent : Sent) (envelope : Mail)
         | inl done ↦
             subst (λ r. Moves old (Some sent) envelope (Some (codes ".")) (Some r) new)
             (sym done.0) (record {
-              mails = file_of old.draft ∷ [];
+              mails = file_of done.1 old.draft ∷ [];
               after = no_mail;
               brings = (
                 old.draft.text,
+                done.1,
                 inside.2 whole,
-                ap (λ (mail : Mail). file_of mail ∷ []) inside.1,
+                done.2,
+                ap (λ (mail : Mail). file_of done.1 mail ∷ []) inside.1,
                 refl,
               );
               addresses = refl;
-              stored = done.1;
+              stored = done.3;
               inside = (λ l. let e : Ready ≡ Lines = sym stage ∙ l in cc, none);
             })
         | inr (inl failed) ↦

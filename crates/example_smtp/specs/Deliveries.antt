@@ -8,7 +8,7 @@ use Rattle.ascii_lines.specs.Replies.{Step, rejected, reply_bytes, took}
 use Rattle.ascii_lines.specs.Serve.{AreSentFirst, ChannelState, Wrote}
 use Rattle.ascii_lines.specs.declared.serving.Stop.{Stop}
 use Rattle.example_smtp.specs.Commands.{Says}
-use Rattle.example_smtp.specs.Mail.{Keeps, Mail, State, file_of, no_mail, text_of_lines}
+use Rattle.example_smtp.specs.Mail.{IsUnbroken, Keeps, Mail, State, file_of, no_mail, text_of_lines}
 use Rattle.example_smtp.specs.Session.{envelope_after, reply_lines}
 use Rattle.example_smtp.specs.declared.commands.Command.{Command}
 use Rattle.example_smtp.specs.declared.commands.Reply.{Reply}
@@ -63,10 +63,11 @@ Addresses (Some sent) old line None new = new ≡ old
 Addresses (Some sent) old line (Some said) new = new ≡ no_mail
 
 -- the mails that an exchange with this line delivers: one, if it is a dot after the lines of a
--- message, with this envelope, and whose text is that of these; no other exchange does
+-- message, with this envelope, a date without a break, and the text of these; no other exchange does
 abbrev pub Brings : Part → Option Sent → Mail → Option (List ℕ) → List (List ℕ) → Type 0
-Brings delivers (Some sent) envelope line mails = (text : List ℕ) × IsText sent text
-    × (mails ≡ file_of (record envelope { text = text }) ∷ []) × (line ≡ Some (codes "."))
+Brings delivers (Some sent) envelope line mails = (text : List ℕ) × (date : List ℕ)
+    × IsText sent text × IsUnbroken date
+    × (mails ≡ file_of date (record envelope { text = text }) ∷ []) × (line ≡ Some (codes "."))
 Brings delivers None envelope line mails = ⊥
 Brings goes_on (Some sent) envelope line mails = (mails ≡ []) × (line ≢ Some (codes "."))
 Brings other begun envelope line mails = mails ≡ []

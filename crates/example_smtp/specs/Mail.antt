@@ -3,7 +3,9 @@ use Rattle.std.specs.Prelude.{◌≡◌, ◌==◌, ◌≤◌, ◌+◌, ◌-◌, 
 use Rattle.std.specs.Prelude.{if◌then◌else◌, length, map, min}
 use Rattle.std.specs.List.{flat_map}
 use Rattle.std.specs.declared.option.Option.{Option}
+use Rattle.ascii.specs.Endings.{is_line_break}
 use Rattle.ascii.specs.StringState.{StringState}
+use Rattle.memchr.specs.Find.{IsFirstByte}
 use Rattle.example_smtp.specs.Folder.{Contents, StoresIn}
 use Rattle.example_smtp.specs.declared.session.Fault.{Fault}
 use Rattle.example_smtp.specs.declared.message.Message.{Message}
@@ -31,13 +33,25 @@ return_path sender = codes "Return-Path: <" ++ (sender ++ (codes ">" ++ 13 ∷ 1
 abbrev pub delivered_to : List ℕ → List ℕ
 delivered_to recipient = codes "Delivered-To: " ++ (recipient ++ 13 ∷ 10 ∷ [])
 
--- the lines before the text in the file of a message
-abbrev pub envelope_of : Mail → List ℕ
-envelope_of mail = return_path mail.sender ++ flat_map delivered_to mail.recipients
+-- the text has no CR and no LF
+abbrev pub IsUnbroken : List ℕ → Type 0
+IsUnbroken text = IsFirstByte is_line_break text None
 
--- the file of a message
-abbrev pub file_of : Mail → List ℕ
-file_of mail = envelope_of mail ++ mail.text
+-- the line of a file that says when the mail came
+abbrev pub received_at : List ℕ → List ℕ
+received_at date = codes "Received: by localhost; " ++ (date ++ 13 ∷ 10 ∷ [])
+
+-- the lines that say whom a mail comes from, and whom it goes to
+abbrev pub address_lines : Mail → List ℕ
+address_lines mail = return_path mail.sender ++ flat_map delivered_to mail.recipients
+
+-- the lines before the text in the file of a message that came at this time
+abbrev pub envelope_of : List ℕ → Mail → List ℕ
+envelope_of date mail = address_lines mail ++ received_at date
+
+-- the file of a message that came at this time
+abbrev pub file_of : List ℕ → Mail → List ℕ
+file_of date mail = envelope_of date mail ++ mail.text
 
 -- the state of a session: what it awaits, the message that was begun, the first fault in its lines,
 -- if there is one, at how many errors more the client is left, how many messages were received, and

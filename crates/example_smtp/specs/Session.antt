@@ -14,7 +14,7 @@ use Rattle.ascii_lines.specs.declared.line_reader.LineError.TheVariants.{LoneBre
 use Rattle.ascii_lines.specs.declared.serving.Next.{Next}
 use Rattle.ascii_lines.specs.declared.serving.Next.TheVariants as next
 use Rattle.example_smtp.specs.Commands.{IsForeign, ReadsCommand, most_bytes, reply_line}
-use Rattle.example_smtp.specs.Mail.{Keeps, Mail, State, file_of, idle, no_mail, unstuffed}
+use Rattle.example_smtp.specs.Mail.{IsUnbroken, Keeps, Mail, State, file_of, idle, no_mail, unstuffed}
 use Rattle.example_smtp.specs.declared.commands.Command.{Command}
 use Rattle.example_smtp.specs.declared.commands.Command.TheVariants.{AddRecipient, BeginLines, Extend}
 use Rattle.example_smtp.specs.declared.commands.Command.TheVariants.{Introduce, Leave, Reset}
@@ -138,7 +138,8 @@ reply_of_fault NoMemory = reply.NoMemory
 -- a message without a fault is stored, or could not be, or there is no memory for its envelope
 abbrev pub EndsWhole : State → Reply → State → Type 0
 EndsWhole old said new =
-    ((said ≡ reply.Received) × Keeps old (file_of old.draft ∷ []) new)
+    ((said ≡ reply.Received) × (date : List ℕ) × IsUnbroken date
+    × Keeps old (file_of date old.draft ∷ []) new)
     ⊎ ((said ≡ reply.NotStored) × Keeps old [] new)
     ⊎ ((said ≡ reply.NoMemory) × (new.folder ≡ old.folder) × (new.count ≡ old.count))
 

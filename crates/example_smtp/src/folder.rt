@@ -1,10 +1,12 @@
 //! A folder that keeps mail, as contracts see it: what is in it after each call.
 
-ghost use Rattle.std.specs.Prelude.{◌≡◌, []};
+ghost use Rattle.std.specs.Prelude.{◌≡◌, [], IfOk};
 ghost use Rattle.ascii.specs.View.{text_of};
+ghost use Rattle.example_smtp.specs.Mail.{IsUnbroken};
 ghost use Rattle.example_smtp.specs.Folder.{Returns, Writes};
 
-use ascii_lines::AsciiStr;
+use ascii_lines::{AsciiStr, AsciiString};
+use std::alloc::Global;
 use std::io;
 
 /// A call at a folder.
@@ -34,6 +36,10 @@ pub trait Folder {
 
     // What is in the folder.
     ghost contents: { Self → Contents };
+
+    /// Returns the date and the time of now as a mail has them, or an error.
+    fn date(&self, alloc: Global) -> io::Result<AsciiString>
+        ensures { IfOk result (λ date. IsUnbroken date.text) };
 
     /// Creates a draft with no bytes under a name with this number, or returns an error, which is `AlreadyExists` if
     /// there is a file of this name.

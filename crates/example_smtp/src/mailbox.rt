@@ -1,11 +1,13 @@
 //! Storing a mail in a folder.
 
-ghost use Rattle.std.specs.Prelude.{◌≡◌, ◌<◌, ◌≤◌, ◌++◌, ◌∷◌, [], OnErr, OnOk};
+ghost use Rattle.std.specs.Prelude.{◌≡◌, ◌<◌, ◌≤◌, ◌++◌, ◌∷◌, [], IfOk, OnErr, OnOk};
 ghost use Rattle.ascii.specs.View.{text_of};
+ghost use Rattle.example_smtp.specs.Mail.{IsUnbroken};
 ghost use Rattle.example_smtp.specs.Folder.{Stores};
 
 use crate::folder::Folder;
-use ascii_lines::AsciiStr;
+use ascii_lines::{AsciiStr, AsciiString};
+use std::alloc::Global;
 use std::io::{self, ErrorKind};
 use std::marker::Model;
 
@@ -33,6 +35,13 @@ impl<F: Folder> Mailbox<F> {
         ensures { result ≡ F.contents folder }
     {
         Mailbox { folder, count: 0 }
+    }
+
+    /// Returns the date and the time of now as a mail has them, or an error.
+    pub fn date(&self, alloc: Global) -> io::Result<AsciiString>
+        ensures { IfOk result (λ date. IsUnbroken date.text) }
+    {
+        self.folder.date(alloc)
     }
 
     /// Stores a mail, the envelope before the text, under a name that no other mail has; or returns an error if a

@@ -3,7 +3,7 @@
 ghost use Rattle.std.specs.Prelude.{◌≡◌, ◌∷◌, ◌++◌, [], IfOk, OnOk};
 ghost use Rattle.std.specs.List.{flat_map};
 ghost use Rattle.ascii.specs.View.{text_of};
-ghost use Rattle.example_smtp.specs.Mail.{delivered_to, string_texts, unstuffed};
+ghost use Rattle.example_smtp.specs.Mail.{delivered_to, received_at, string_texts, unstuffed};
 
 use ascii_lines::{AsciiStr, AsciiString};
 use std::alloc::{AllocError, Global};
@@ -17,7 +17,7 @@ pub struct Message {
 }
 
 impl Message {
-    ghost use Rattle.example_smtp.specs.Mail.{envelope_of, mail_of, no_mail};
+    ghost use Rattle.example_smtp.specs.Mail.{address_lines, envelope_of, mail_of, no_mail};
 
     /// Creates a message with nothing in it. Does not allocate.
     pub fn new(alloc: Global) -> Message
@@ -31,15 +31,25 @@ impl Message {
     }
 
     /// Returns the lines before the text in the file of the message, or an error if an allocation fails.
-    pub fn envelope(&self, alloc: Global) -> Result<AsciiString, AllocError>
-        ensures { IfOk result (λ envelope. envelope.text ≡ envelope_of (mail_of self.now)) }
+    pub fn envelope(&self, alloc: Global, date: AsciiStr<'_>) -> Result<AsciiString, AllocError>
+        ensures { IfOk result (λ envelope.
+            envelope.text ≡ envelope_of (text_of date.entry) (mail_of self.now)) }
     {
-        let mut envelope = AsciiString::new(alloc);
-        envelope.push_str(AsciiStr::literal("Return-Path: <"))?;
-        envelope.push_str(self.sender.as_ascii_str())?;
-        append_line(&mut envelope, AsciiStr::literal(">"))?;
-        append_recipients(&mut envelope, &self.recipients)?;
+        let mut envelope = self.address_lines(alloc)?;
+        append_received(&mut envelope, date)?;
         Ok(envelope)
+    }
+
+    /// Returns the lines that say whom the message comes from and whom it goes to, or an error if an allocation fails.
+    fn address_lines(&self, alloc: Global) -> Result<AsciiString, AllocError>
+        ensures { IfOk result (λ lines. lines.text ≡ address_lines (mail_of self.now)) }
+    {
+        let mut lines = AsciiString::new(alloc);
+        lines.push_str(AsciiStr::literal("Return-Path: <"))?;
+        lines.push_str(self.sender.as_ascii_str())?;
+        append_line(&mut lines, AsciiStr::literal(">"))?;
+        append_recipients(&mut lines, &self.recipients)?;
+        Ok(lines)
     }
 }
 
@@ -55,6 +65,16 @@ fn append_recipients(
         envelope.push_str(AsciiStr::literal("Delivered-To: "))?;
         append_line(envelope, recipient.as_ascii_str())?;
     }
+    Ok(())
+}
+
+/// Appends the line that says when the mail came, or returns an error if an allocation fails.
+fn append_received(envelope: &mut AsciiString, date: AsciiStr<'_>) -> Result<(), AllocError>
+    ensures { OnOk result
+        (envelope.new.text ≡ envelope.old.text ++ received_at (text_of date.entry)) }
+{
+    envelope.push_str(AsciiStr::literal("Received: by localhost; "))?;
+    append_line(envelope, date)?;
     Ok(())
 }
 

@@ -1,10 +1,11 @@
 //! A session with one client: the message that it sends, and the messages that are stored.
 
-ghost use Rattle.std.specs.Prelude.{◌↔◌, ◌≡◌, ◌∷◌, ◌++◌, [], IsTrue, OnErr, OnOk};
+ghost use Rattle.std.specs.Prelude.{◌↔◌, ◌≡◌, ◌∷◌, ◌++◌, [], IfOk, IsTrue, OnErr, OnOk};
 ghost use Rattle.ascii.specs.View.{text_of};
 ghost use Rattle.ascii_lines.specs.LineWriter.{line_with};
 ghost use Rattle.ascii_lines.specs.Replies.{IsRequest, Says};
 ghost use Rattle.example_smtp.specs.Folder.{StoresIn};
+ghost use Rattle.example_smtp.specs.Mail.{IsUnbroken};
 ghost use Rattle.example_smtp.specs.Session.{Fits, IsAllowed, fault_of, is_error, next_after};
 ghost use Rattle.example_smtp.specs.Session.{refusal_of, reply_lines, reply_of_fault, reply_to};
 ghost use Rattle.example_smtp.specs.Session.{reset_stage};
@@ -17,6 +18,7 @@ use ascii_lines::{
     AsciiStr, AsciiString, Ending, Handler, LineError, Next, Received, Replies, Sink,
 };
 use std::alloc::{AllocError, Allocator, Global};
+use std::io;
 use std::marker::Model;
 use std::mem::replace;
 
@@ -245,6 +247,7 @@ impl<F: Folder> Session<F> {
     }
 
     /// Stores or drops the message that was begun.
+    #[tactic(auto, using(crate::proofs::FolderLemmas::in_none))]
     fn end_message(&mut self) -> Reply
         ensures { Ends self.old.fault self.old result self.new }
     {
@@ -254,7 +257,10 @@ impl<F: Folder> Session<F> {
             self.fault = None;
             return reply_of_fault(fault);
         }
-        let Ok(envelope) = draft.envelope(self.alloc) else {
+        let Ok(date) = date_in(&self.mailbox, self.alloc) else {
+            return Reply::NotStored;
+        };
+        let Ok(envelope) = draft.envelope(self.alloc, date.as_ascii_str()) else {
             return Reply::NoMemory;
         };
         if !store(
@@ -345,6 +351,16 @@ fn next_of(reply: Option<Reply>) -> Next
         Some(Reply::Bye | Reply::Closing | Reply::CutOff) => Next::Close,
         Some(Reply::Received) => Next::LineOnceSent,
         _ => Next::Line,
+    }
+}
+
+/// Returns the date and the time of now as a mail has them; without a mailbox nothing.
+fn date_in<F: Folder>(mailbox: &Option<Mailbox<F>>, alloc: Global) -> io::Result<AsciiString>
+    ensures { IfOk result (λ date. IsUnbroken date.text) }
+{
+    match mailbox {
+        Some(mailbox) => mailbox.date(alloc),
+        None => Ok(AsciiString::new(alloc)),
     }
 }
 

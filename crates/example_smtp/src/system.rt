@@ -4,14 +4,19 @@
 //! do, and are to be read beside these: each makes one call, and notes its outcome. `bin/test dialogues` compares the
 //! system calls of a delivery.
 
-ghost use Rattle.std.specs.Prelude.{◌≡◌, ◌++◌, map};
+ghost use Rattle.std.specs.Prelude.{◌≡◌, ◌++◌, IfOk, map};
 ghost use Rattle.ascii.specs.View.{text_of};
+ghost use Rattle.example_smtp.specs.Mail.{IsUnbroken};
 ghost use Rattle.example_smtp.specs.Folder.{Returns, Writes, contents_of};
 ghost use Rattle.example_smtp.specs.declared.folder.Call.TheVariants.{Append};
 
 use crate::folder::{Call, Folder};
+use ascii::endings::first_break;
+use ascii::string;
 use ascii_devices::Log;
-use ascii_lines::AsciiStr;
+use ascii_lines::{AsciiStr, AsciiString};
+use jiff::Timestamp;
+use std::alloc::Global;
 use std::fs::{self, File};
 use std::io::{self, ErrorKind, Write};
 use std::time::{SystemTime, UNIX_EPOCH};
@@ -137,6 +142,10 @@ impl<'a> SystemFolder<'a> {
 impl Folder for SystemFolder<'_> {
     ghost contents = { λ folder. contents_of folder.calls.items };
 
+    fn date(&self, alloc: Global) -> io::Result<AsciiString> {
+        date_of(read_clock(self.files.rt, alloc))
+    }
+
     fn create(&mut self, number: u64) -> io::Result<()> {
         note(Call::Create, self.files.create(number), &mut self.calls)
     }
@@ -164,6 +173,27 @@ impl Folder for SystemFolder<'_> {
     fn remove(&mut self) -> io::Result<()> {
         note(Call::Remove, self.files.remove(), &mut self.calls)
     }
+}
+
+/// Returns the date and the time of now by the form of mails, in UTC.
+fn read_clock(rt: &HostRuntime, alloc: Global) -> Result<String, jiff::Error> {
+    Timestamp::now(rt)?.strftime(alloc, "%a, %d %b %Y %H:%M:%S +0000")
+}
+
+/// Returns a date that was read, or an error if it was not, or no line of a mail can have it.
+fn date_of(read: Result<String, jiff::Error>) -> io::Result<AsciiString>
+    ensures { IfOk result (λ date. IsUnbroken date.text) }
+{
+    let Ok(text) = read else {
+        return Err(io::Error::from(ErrorKind::InvalidData));
+    };
+    let Ok(date) = string::into_ascii_string(text) else {
+        return Err(io::Error::from(ErrorKind::InvalidData));
+    };
+    if first_break(date.as_ascii_str().as_bytes()).is_some() {
+        return Err(io::Error::from(ErrorKind::InvalidData));
+    }
+    Ok(date)
 }
 
 /// Notes what a call of the system has returned, and returns it.
