@@ -1,3 +1,4 @@
 pub mod AsciiMapLemmas
 pub mod FoldedMapLemmas
 pub mod OrderLemmas
+pub mod SetLemmas

@@ -1,2 +1,3 @@
 pub mod FoldedMapLends
 pub mod Maps
+pub mod Sets

@@ -1,4 +1,4 @@
-//! Texts that are compared ignoring ASCII case, and maps from texts to values.
+//! Texts that are compared ignoring ASCII case, maps from texts to values, and sets of texts.
 //!
 //!     let mut headers = FoldedMap::new(alloc);
 //!     headers.insert(AsciiStr::literal("Host"), 1)?;
@@ -10,6 +10,7 @@
 //! | to compare, order or hash views ignoring case | `FoldedStr` |
 //! | such a key that owns its text | `FoldedString` |
 //! | a map from texts to values that is asked by a view | `AsciiMap`; ignoring case, `FoldedMap` |
+//! | a set of texts that is asked by a view | `AsciiSet`; ignoring case, `FoldedSet` |
 //!
 //! In an example, `alloc` is an allocator, and the comment after `//` is the value's `{:?}` output.
 #![tactic(auto)]
@@ -17,7 +18,9 @@
 mod folded;
 mod map_iter;
 mod maps;
+mod sets;
 
 pub use folded::{Folded, FoldedStr, FoldedString};
 pub use map_iter::{AsciiMapIter, FoldedMapIter};
 pub use maps::{AsciiMap, FoldedMap};
+pub use sets::{AsciiSet, FoldedSet};
