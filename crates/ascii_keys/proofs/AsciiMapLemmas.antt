@@ -1,10 +1,13 @@
 -- The strings of a map, as texts.
-use Rattle.std.proofs.Common.{◌≡◌, ◌∙◌, ℕ, Less, List, [], ◌∷◌, Bool, Option, ap, cond, refl, sym}
+use Rattle.std.proofs.Common.{◌≡◌, ◌∙◌, ℕ, Less, List, [], ◌∷◌, Bool, None, Option, Some, ap, cond, is_some}
+use Rattle.std.proofs.Common.{map, refl, sym}
+use Rattle.std.specs.Borrow.{MutBor}
 use Rattle.std.specs.List.{AllByRecursion}
 use Rattle.std.specs.List.Sorted.{IsStrictlySortedBy}
-use Rattle.std.specs.BTreeMap.{BTreeMap, UpdatesBy, insert_entry, is_at}
+use Rattle.std.specs.BTreeMap.{BTreeMap, UpdatesBy, WritesThrough, get_by, insert_entry, is_at}
 use Rattle.std.specs.Cmp.Lexicographic.{slice_cmp}
 use Rattle.std.specs.Map.{keys_of, lookup, remove_entry}
+use Rattle.std.specs.Option.{OnSome, option_copied_mut}
 use Rattle.std.specs.Ordering.{nat_cmp}
 use Rattle.std.specs.Prelude.{string_bytes}
 use Rattle.std.specs.Str.{IsAscii, bytes_eq}
@@ -13,7 +16,7 @@ use Rattle.std.specs.declared.string.String.{String}
 use Rattle.std.proofs.lemmas.List.Elements.{All-tail}
 use Rattle.std.proofs.lemmas.Map.Text.{btree_map_updates_text, is_eq-slice_cmp}
 use Rattle.std.proofs.lemmas.Map.Views.{All-keys-insert_entry, All-map-remove_entry}
-use Rattle.ascii_keys.specs.Maps.{ChangesAt, HasAsciiKeys, texts_of}
+use Rattle.ascii_keys.specs.Maps.{ChangesAt, HasAsciiKeys, Writes, texts_of}
 
 module _ {A V : Type 0} where
   -- a text is found among the texts where it is found among the strings
@@ -64,3 +67,21 @@ module _ {A V : Type 0} where
       → HasAsciiKeys entries → HasAsciiKeys (remove_entry test entries)
   ascii_less test entries all =
       All-map-remove_entry test (λ e. e.0) (λ one. IsAscii (string_bytes one)) entries all
+
+  keys_texts : (entries : List (String A × V))
+      → keys_of (texts_of entries) ≡ map string_bytes (keys_of entries)
+  keys_texts [] = refl
+  keys_texts (entry ∷ entries) = ap (λ keys. string_bytes entry.0 ∷ keys) (keys_texts entries)
+
+  -- a value written at a text that is found changes it, and no key
+  pub writes_texts : (key : List ℕ) (old new : BTreeMap (String A) V) (value : V)
+      (found : Option (MutBor V))
+      → option_copied_mut found ≡ get_by (λ k. slice_cmp nat_cmp key (string_bytes k)) old
+      → WritesThrough string_cmp (λ k. slice_cmp nat_cmp key (string_bytes k)) old value new
+      → OnSome found (Writes (texts_of old.entries) key value (texts_of new.entries))
+  writes_texts key old new value None is through = tt
+  writes_texts key old new value (Some there) is through = record {
+    values = changes_texts key old new (Some value) (through.3 (ap is_some (sym is)));
+    keys = keys_texts new.entries
+        ∙ (ap (map string_bytes) through.1 ∙ sym (keys_texts old.entries));
+  }

@@ -1,3 +1,4 @@
+pub mod AsciiMapLends
 pub mod FoldedMapLends
 pub mod Maps
 pub mod Sets

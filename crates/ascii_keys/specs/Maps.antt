@@ -37,6 +37,12 @@ value_at entries key = lookup (bytes_eq key) entries
 abbrev pub ChangesAt : {V : Type 0} → List ℕ → Option V → Entries V → Entries V → Type 0
 ChangesAt key value old new = Changes bytes_eq (value_at old) key value (value_at new)
 
+-- `new` has the keys of `old`, in their order, and their values, except that it has `value` at `key`
+pub record Writes {V : Type 0} (old : Entries V) (key : List ℕ) (value : V) (new : Entries V)
+    : Type 0 where
+  pub values : ChangesAt key (Some value) old new
+  pub keys : keys_of new ≡ keys_of old
+
 -- `iterator` has yet to yield the entries of `map`, whose keys ascend by their bytes
 pub record Walks {V : Type 0} (map iterator : Entries V) : Type 0 where
   pub entries : iterator ≡ map

@@ -51,7 +51,10 @@ impl<V> Model for AsciiMap<V> {
 }
 
 impl<V: Drop> AsciiMap<V> {
+    ghost use Rattle.std.specs.Borrow.{sem};
+    ghost use Rattle.std.specs.Option.{option_copied_mut};
     ghost use Rattle.std.specs.Prelude.{[], length};
+    ghost use Rattle.ascii_keys.specs.AsciiMapLends.{lends_at};
     ghost use Rattle.ascii_keys.specs.Maps.{ChangesAt, Walks, value_at};
 
     /// Creates an empty map. Does not allocate.
@@ -74,6 +77,20 @@ impl<V: Drop> AsciiMap<V> {
         ensures { option_copied result ≡ value_at self.now (text_of key.entry) }
     {
         self.entries.get(key.as_str())
+    }
+
+    /// Returns a mutable reference to the value at `key`, or `None` if there is none.
+    ///
+    ///     let mut ports = AsciiMap::new(alloc);
+    ///     ports.insert(AsciiStr::literal("http"), 80)?;
+    ///     if let Some(port) = ports.get_mut(AsciiStr::literal("http")) { *port += 1; }
+    ///     ports.get(AsciiStr::literal("http")) // Some(81)
+    ///     ports.get_mut(AsciiStr::literal("ftp")) // None
+    pub fn get_mut(&mut self, key: AsciiStr<'_>) -> Option<&mut V>
+        ensures* writes_back { sem 𝓛 (lends_at V.row self.entry (text_of key.entry) result) }
+        ensures value { option_copied_mut result ≡ value_at self.old (text_of key.entry) }
+    {
+        self.entries.get_mut(key.as_str())
     }
 
     /// Returns `true` if there is a value at `key`.

@@ -4,7 +4,6 @@ use Rattle.std.proofs.Common.{◌++◌, Some, ⊎_elim, add-one, add-zero, cond,
 use Rattle.std.proofs.Common.{unwrap_or}
 use Rattle.std.specs.Cmp.{IsEquivalence}
 use Rattle.std.specs.List.{count_by}
-use Rattle.std.specs.Map.{update}
 use Rattle.std.proofs.lemmas.Bool.{cases_Bool}
 use Rattle.std.proofs.lemmas.List.Sums.{count_by-le-length, sum_by-cons, sum_by_push}
 use Rattle.ascii_keys.specs.Maps.{Changes, Values}

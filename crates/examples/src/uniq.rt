@@ -18,8 +18,12 @@ pub fn count_lines(alloc: Global, text: AsciiStr<'_>) -> Result<AsciiMap<usize>,
 {
     let mut counts = AsciiMap::new(alloc);
     for line in text.lines() {
-        let count = counts.get(line).copied().unwrap_or(0);
-        counts.insert(line, count + 1)?;
+        match counts.get_mut(line) {
+            Some(count) => *count += 1,
+            None => {
+                counts.insert(line, 1)?;
+            }
+        }
     }
     Ok(counts)
 }
