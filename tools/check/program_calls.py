@@ -237,7 +237,7 @@ FILTER = [
     Call("an output that is full", ["copy", "text", "none"], b"", 3, b"", FULL, "full"),
 ]
 
-OF_EXAMPLES = b"usage: examples events|head|host|ini|keys|lines|nmea|pager|paths|register|syslog|tally|tokens|uniq\n"
+OF_EXAMPLES = b"usage: examples events|head|host|ini|keys|lines|nmea|pager|paths|register|seen|syslog|tally|tokens|uniq\n"
 LINES_OF_A_REGISTER = b"GET\nhello\r\nGET\nno\377ascii\nGET\nQUIT\nGET\n"
 REPLIES_OF_A_REGISTER = b"\nOK\nhello\nBAD\nhello\nBYE\n"
 HEAD = b"GET /a?b HTTP/1.1\r\nHost: a.example\r\nContent-Type: text/plain; CHARSET=utf-8\r\n%s\r\nbody"
@@ -304,6 +304,8 @@ EXAMPLES = [
     Call("register", ["register"], LINES_OF_A_REGISTER, 0, REPLIES_OF_A_REGISTER, b"Closed\n"),
     Call("events", ["events"], LINES_OF_A_REGISTER, 0, REPLIES_OF_A_REGISTER, b"Some(Closed)\n"),
     Call("events to the end of the input", ["events"], b"a\nGET", 0, b"OK\na\n", b"Some(EndOfInput)\n"),
+    Call("seen", ["seen"], b"b\na\r\nb\nB\n\nb\n\na", 0, b"b\na\nB\n\n"),
+    Call("seen of a byte above 127", ["seen"], b"a\na\nz\303\244\n", 0, b"the byte at index 5 is not ASCII\n"),
     Call("syslog", ["syslog"], LOG, 0, MESSAGES),
     Call("syslog of no line", ["syslog"], b"", 0, b""),
     Call("tally", ["tally"], b"To be, or not\tto BE,\n[to] TO\n", 0, b"1 [to]\n2 be,\n1 not\n1 or\n3 to\n"),

@@ -1,5 +1,6 @@
 pub mod EntriesLemmas
 pub mod HeadLemmas
 pub mod PagerLemmas
+pub mod SeenLemmas
 pub mod TallyLemmas
 pub mod TokensLemmas

@@ -5,6 +5,7 @@ pub mod Paths
 pub mod Reading
 pub mod Register
 pub mod Search
+pub mod Seen
 pub mod Sentence
 pub mod Tally
 pub mod Tokens

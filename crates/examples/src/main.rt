@@ -11,6 +11,7 @@ mod nmea;
 mod pager;
 mod paths;
 mod register;
+mod seen;
 mod syslog;
 mod tally;
 mod tokens;
@@ -35,13 +36,14 @@ fn main(rt: HostRuntime) -> io::Result<ExitCode> {
         b"pager" => pager::main(rt)?,
         b"paths" => paths::main(rt)?,
         b"register" => register::main(rt)?,
+        b"seen" => seen::main(rt)?,
         b"syslog" => syslog::main(rt)?,
         b"tally" => tally::main(rt)?,
         b"tokens" => tokens::main(rt)?,
         b"uniq" => uniq::main(rt)?,
         _ => {
             eprintln!(rt;
-                "usage: examples events|head|host|ini|keys|lines|nmea|pager|paths|register|syslog|tally|tokens|uniq"
+                "usage: examples events|head|host|ini|keys|lines|nmea|pager|paths|register|seen|syslog|tally|tokens|uniq"
             )?;
             return Ok(ExitCode::from(64));
         }
