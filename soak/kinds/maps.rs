@@ -1,10 +1,10 @@
-//! Maps whose keys are texts, by std's `BTreeMap`.
+//! Maps whose keys are texts, and sets of texts, by std's `BTreeMap` and `BTreeSet`.
 
 use super::{allocating, Kind};
 use crate::asked::{Answer, Asked, Failed, Needs};
 use crate::calls::{self, Step, Steps};
 use crate::random::Random;
-use std::collections::BTreeMap;
+use std::collections::{BTreeMap, BTreeSet};
 
 pub static KINDS: &[Kind] = &[
     allocating("maps of texts", |random, asked| {
@@ -39,7 +39,7 @@ fn steps(random: &mut Random) -> Steps {
     steps
 }
 
-/// A map with keys as they are, and one that ignores their case.
+/// A map and a set with keys as they are, and ones that ignore their case.
 pub fn ask_maps(texts: &[u8], steps: &[Step], asked: &mut Asked) {
     calls::ask_maps(asked, texts, steps);
     let needs = put_steps(texts, steps, usize::MAX, &mut asked.want);
@@ -54,6 +54,7 @@ pub fn ask_maps(texts: &[u8], steps: &[Step], asked: &mut Asked) {
 /// insertion needs.
 fn put_steps(texts: &[u8], steps: &[Step], failing: usize, want: &mut Answer) -> Vec<Needs> {
     let (mut map, mut folded, mut needs) = (Map::new(), FoldedMap::new(), Vec::new());
+    let mut sets = [BTreeSet::new(), BTreeSet::new()];
     for step in steps {
         let key = &texts[step.start..step.end];
         // A map that knows the case copies each key, and one that ignores it only a new key. There may be room for a
@@ -68,6 +69,13 @@ fn put_steps(texts: &[u8], steps: &[Step], failing: usize, want: &mut Answer) ->
         if matches!(step.kind, 0 | 3) {
             needs.push(folded_copy);
         }
+        let keys = [key.to_vec(), key.to_ascii_lowercase()];
+        for (set, key) in sets.iter_mut().zip(&keys).filter(|_| step.kind == 0) {
+            let fails = needs.len() == failing;
+            needs.push(if set.contains(key) { Needs::Nothing } else { copy });
+            if fails { want.put(Failed) } else { want.put(set.insert(key.clone())) }
+        }
+        want.all(sets.iter().zip(&keys).map(|(set, key)| set.contains(key)));
     }
     needs
 }
@@ -78,6 +86,10 @@ fn put_step(map: &mut Map, step: Step, key: Vec<u8>, fails: bool, want: &mut Ans
         0 => want.put(map.insert(key, step.at)),
         1 => want.put(map.get(&key).copied()),
         2 => want.put(map.remove(&key)),
+        3 => want.put(map.get_mut(&key).map(|value| {
+            *value = value.wrapping_add(step.at);
+            *value
+        })),
         4 => want.all(&*map),
         _ => want.put(map.contains_key(&key)),
     }

@@ -31,14 +31,17 @@ pub static ROWS: &[Row] = &[
             let want = &mut asked.want;
             for number in 0..keys.len() {
                 want.times(2, (NOTHING, number + 1, false));
+                want.times(4, true);
                 want.times(2, (3 * number, number + 1, false));
-                want.put((true, number + 1, false));
-                want.put((6 * number + 2, number + 1, false));
+                want.times(2, true);
+                want.times(2, (6 * number + 2, number + 1, false));
+                want.times(2, true);
             }
             // A key that is not there gets its value before the same is added.
             for number in 0..added.len() {
-                want.put((false, keys.len(), false));
+                want.put((NOTHING, keys.len(), false));
                 want.put((2 * (3 * keys.len() + number), keys.len() + number + 1, false));
+                want.times(2, false);
             }
             want.has_other_failures = true;
         });

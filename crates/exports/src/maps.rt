@@ -1,20 +1,29 @@
-//! Maps whose keys are texts, and std's maps with folded texts as keys.
+//! Maps whose keys are texts, sets of texts, and std's maps with folded texts as keys.
 
 use crate::answer::{Answer, Made, Put};
 use crate::steps::Step;
 use ascii::AsciiStr;
-use ascii_keys::{AsciiMap, FoldedMap, FoldedStr, FoldedString};
+use ascii_keys::{AsciiMap, AsciiSet, FoldedMap, FoldedSet, FoldedStr, FoldedString};
 use std::alloc::Global;
 use std::collections::{BTreeMap, HashMap};
 
 /// What steps over a map return, each with the length of the map: 0 inserts the number at the step's text, 1 gets, 2 removes,
-/// 4 yields all entries, and any other kind looks whether the key is there. First of a map in which keys differ by case, and
-/// then of one that ignores case. In that one 3 puts the number if there is none, and adds it to the one there.
+/// 3 adds the number to the one there, 4 yields all entries, and any other kind looks whether the key is there. First of a map
+/// in which keys differ by case, and then of one that ignores case. In that one 3 puts the number first if there is none. Then
+/// of two sets: 0 adds the text to both, and each step looks whether it is there.
 pub fn ask_maps(alloc: Global, texts: AsciiStr, steps: &[Step], answer: &mut Answer) {
     let (mut map, mut folded) = (AsciiMap::new(alloc), FoldedMap::new(alloc));
+    let mut set = AsciiSet::new(alloc);
+    let mut folded_set = FoldedSet::new(alloc);
     for step in steps {
-        put_step(&mut map, *step, step.text(texts), answer);
-        put_folded_step(&mut folded, *step, step.text(texts), answer);
+        let key = step.text(texts);
+        put_step(&mut map, *step, key, answer);
+        put_folded_step(&mut folded, *step, key, answer);
+        if step.kind == 0 {
+            answer.put_result(set.insert(key));
+            answer.put_result(folded_set.insert(key));
+        }
+        answer.put((set.contains(key), folded_set.contains(key)));
     }
 }
 
@@ -23,6 +32,12 @@ fn put_step(map: &mut AsciiMap<usize>, step: Step, key: AsciiStr, answer: &mut A
         0 => answer.put_result(map.insert(key, step.at)),
         1 => answer.put(map.get(key).copied()),
         2 => answer.put(map.remove(key)),
+        3 => {
+            if let Some(value) = map.get_mut(key) {
+                *value = value.wrapping_add(step.at);
+            }
+            answer.put(map.get(key).copied());
+        }
         4 => {
             for (key, value) in map.iter() {
                 answer.put((key, *value));
