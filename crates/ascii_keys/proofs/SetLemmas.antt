@@ -1,14 +1,9 @@
 -- The texts of a set are the keys of a map.
-use Rattle.std.proofs.Common.{◌≡◌, ◌||◌, ℕ, Bool, true, false, List, Option, Some, cond, is_some, refl}
+use Rattle.std.proofs.Common.{arith, ℕ, Bool, List, Some}
 use Rattle.std.proofs.lemmas.Map.Made.{is_some-lookup}
 use Rattle.std.specs.Map.{keys_of, lookup}
 use Rattle.ascii_keys.specs.Maps.{Changes, Entries}
 use Rattle.ascii_keys.specs.Sets.{Adds}
-
-one_more : {V : Type 0} (same : Bool) (value : V) (old : Option V)
-    → is_some (cond same (Some value) old) ≡ (same || is_some old)
-one_more true value old = refl
-one_more false value old = refl
 
 -- a map in which a value was put at a key has that key, and those that it had
 pub adds_key : {V : Type 0} (same : List ℕ → List ℕ → Bool) (key : List ℕ) (value : V)
@@ -17,4 +12,4 @@ pub adds_key : {V : Type 0} (same : List ℕ → List ℕ → Bool) (key : List 
     → Adds same (keys_of old) key (keys_of new)
 adds_key same key value old new changes = λ other.
     rw (← is_some-lookup (same other) new, ← is_some-lookup (same other) old, changes other)
-    (one_more (same key other) value (lookup (same other) old))
+    (grind arith)

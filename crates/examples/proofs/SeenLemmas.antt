@@ -1,6 +1,6 @@
 -- What the first of the texts are after one more text.
 use Rattle.std.proofs.Common.{◌≡◌, ◌∙◌, ◌||◌, ℕ, Bool, true, false, not, List, [], ◌∷◌, ◌++◌, ap, cond}
-use Rattle.std.proofs.Common.{refl}
+use Rattle.std.proofs.Common.{arith, refl}
 use Rattle.std.proofs.lemmas.List.{append-nil}
 use Rattle.std.proofs.lemmas.List.Concat.{flat_map-append}
 use Rattle.std.proofs.lemmas.List.Elements.{filter-append}
@@ -11,27 +11,18 @@ use Rattle.std.specs.Set.{is_member}
 use Rattle.std.specs.Str.{bytes_eq}
 use Rattle.examples.specs.Seen.{firsts, seen_line}
 
-swapped : (a b : Bool) → (a || (b || false)) ≡ (b || a)
-swapped true true = refl
-swapped true false = refl
-swapped false true = refl
-swapped false false = refl
-
 -- one more text is among the texts
 pub member_push : (texts : List (List ℕ)) (last text : List ℕ)
     → is_member bytes_eq (texts ++ last ∷ []) text
     ≡ (bytes_eq last text || is_member bytes_eq texts text)
 member_push texts last text =
-    rw (list_any-append (bytes_eq text) texts (last ∷ []), nat_list_eq_equiv.symm last text)
-    (swapped (is_member bytes_eq texts text) (bytes_eq text last))
+    rw (list_any-append (bytes_eq text) texts (last ∷ []), nat_list_eq_equiv.symm last text) (grind arith)
 
-kept : {X : Type 0} (test : X → Bool) (last : X) (same among : Bool) → test last ≡ same
+kept : {X : Type 0} (test : X → Bool) (last : X) (among : Bool)
     → filter (λ one. not (test one)) (cond among [] (last ∷ []))
-    ≡ cond (same || among) [] (last ∷ [])
-kept test last true true is = refl
-kept test last false true is = refl
-kept test last true false is = rw is refl
-kept test last false false is = rw is refl
+    ≡ cond (test last || among) [] (last ∷ [])
+kept test last true = grind arith
+kept test last false = grind arith
 
 -- one more text is one more of the first, unless it is among those before it
 firsts_push : (texts : List (List ℕ)) (last : List ℕ) → firsts (texts ++ last ∷ [])
@@ -43,7 +34,7 @@ firsts_push (text ∷ texts) last =
     rw (
       firsts_push texts last,
       filter-append (λ one. not (same one)) (firsts texts) (cond among [] (last ∷ [])),
-      kept same last (same last) among refl,
+      kept same last among,
     ) refl
 
 -- and it is printed then
