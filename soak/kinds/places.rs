@@ -19,16 +19,23 @@ pub static KINDS: &[Kind] = &[
 /// A part of a text: where it starts and where it ends.
 type Part = (usize, usize);
 
-/// The part without whitespace at its start and at its end.
-fn trimmed(text: &[u8], (start, end): Part) -> Part {
-    let start = text[start..end].iter().position(|byte| !is_white(*byte)).map_or(end, |at| start + at);
-    let end = text[start..end].iter().rposition(|byte| !is_white(*byte)).map_or(start, |at| start + at + 1);
+/// The part without what is of a class at its start and at its end.
+fn trimmed(text: &[u8], (start, end): Part, is: fn(u8) -> bool) -> Part {
+    let start = text[start..end].iter().position(|byte| !is(*byte)).map_or(end, |at| start + at);
+    let end = text[start..end].iter().rposition(|byte| !is(*byte)).map_or(start, |at| start + at + 1);
     (start, end)
 }
 
+/// The n-th of the longest runs without digits, counted from 0.
+fn word_at(text: &[u8], (start, end): Part, n: usize) -> Option<Part> {
+    let word = text[start..end].split(u8::is_ascii_digit).filter(|word| !word.is_empty()).nth(n)?;
+    let start = word.as_ptr() as usize - text.as_ptr() as usize;
+    Some((start, start + word.len()))
+}
+
 /// What is between quotes at the start of a part, and what comes after it.
-fn quoted_parts(text: &[u8], (start, end): Part, quote: u8) -> Result<(Part, Part), Option<usize>> {
-    match quoted_in(&text[start..end], quote, b'\\') {
+fn quoted_parts(text: &[u8], (start, end): Part, quote: u8, escape: u8) -> Result<(Part, Part), Option<usize>> {
+    match quoted_in(&text[start..end], quote, escape) {
         Ok((inside, rest)) => Ok(((start + 1, start + 1 + inside.len()), (end - rest.len(), end))),
         Err(position) => Err(position.map(|at| start + at)),
     }
@@ -39,9 +46,10 @@ fn part_by(text: &[u8], part: Part, step: Step, prefix: &[u8]) -> Result<Part, O
     let (start, end) = part;
     let found = text[start..end].iter().position(|byte| *byte == step.code).map(|at| start + at);
     let mid = (step.at <= end - start).then(|| start + step.at);
+    let counted = mid.filter(|mid| text[start..*mid].iter().all(u8::is_ascii_digit));
     let digits = text[start..end].iter().position(|byte| !byte.is_ascii_digit()).map_or(end, |at| start + at);
     match step.kind {
-        0 => Ok(trimmed(text, part)),
+        0 => Ok(trimmed(text, part, is_white)),
         1 => Ok((start, found.ok_or(NOTHING)?)),
         2 => Ok((found.ok_or(NOTHING)? + 1, end)),
         3 => Ok((start, mid.ok_or(NOTHING)?)),
@@ -49,18 +57,23 @@ fn part_by(text: &[u8], part: Part, step: Step, prefix: &[u8]) -> Result<Part, O
         5 => text[start..end].starts_with(prefix).then(|| (start + prefix.len(), end)).ok_or(NOTHING),
         6 => Ok((start, digits)),
         7 => Ok((digits, end)),
-        8 => Ok(quoted_parts(text, part, step.code)?.0),
-        9 => Ok(quoted_parts(text, part, step.code)?.1),
+        8 => Ok(quoted_parts(text, part, step.code, b'\\')?.0),
+        9 => Ok(quoted_parts(text, part, step.code, b'\\')?.1),
         10 => (found == Some(start)).then_some((start + 1, end)).ok_or(NOTHING),
         11 => (start < digits).then_some((start, digits)).ok_or(NOTHING),
-        _ => (start < digits).then_some((digits, end)).ok_or(NOTHING),
+        12 => (start < digits).then_some((digits, end)).ok_or(NOTHING),
+        13 => Ok((start, counted.ok_or(NOTHING)?)),
+        14 => Ok((counted.ok_or(NOTHING)?, end)),
+        15 => Ok(quoted_parts(text, part, step.code, step.code).map_err(|_| NOTHING)?.1),
+        16 => word_at(text, part, step.at).ok_or(NOTHING),
+        _ => Ok(trimmed(text, part, |byte| byte.is_ascii_digit())),
     }
 }
 
 pub fn parts(random: &mut Random, asked: &mut Asked) {
     let text = random.text();
     let (mut texts, mut steps) = (Vec::new(), Vec::new());
-    for kind in random.script(13) {
+    for kind in random.script(18) {
         let (code, at) = (random.code_of(&text), random.place(text.len() / 2));
         let start = texts.len();
         texts.extend(random.needle(&text));
@@ -109,6 +122,6 @@ pub fn ask_place(at: usize, text: &[u8], asked: &mut Asked) {
         asked.want.put((line, column));
         asked.want.copy(format!("{line}:{column}: no '='"));
         let rest = String::from_utf8_lossy(&text[at..]);
-        asked.want.copy(format!("{at}..{} {rest:?} {line}:{column}: no '='", text.len()));
+        asked.want.copy(format!("{rest} {at}..{} {rest:?} {line}:{column}: no '='", text.len()));
     }
 }

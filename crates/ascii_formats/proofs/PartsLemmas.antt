@@ -47,7 +47,7 @@ part_length part = omega (
 )
 
 -- where the sides of a cut of a part meet
-pub ruleset part_lengths = (part_length, length-append, length-take, length-drop)
+pub ruleset part_lengths = (part_length, append_assoc, length-append, length-take, length-drop)
 
 -- what a part ends with is not longer
 pub rest_fits : (part : Part) (rest : List ℕ) → EndsWith rest (part_text part)

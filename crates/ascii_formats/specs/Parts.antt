@@ -1,10 +1,13 @@
 -- Parts of a text, which keep their place in it.
 use Rattle.std.specs.Prelude.{◌≡◌, ◌≢◌, ◌<◌, ◌≤◌, ◌⊎◌, ⊤, ℕ, ◌+◌, List, [], ◌∷◌, ◌++◌, codes}
-use Rattle.std.specs.Prelude.{decimal, length, slice_range}
+use Rattle.std.specs.Prelude.{decimal, length, map, slice_range, take}
+use Rattle.std.specs.List.{All}
+use Rattle.ascii.specs.Class.{IsDigit}
 use Rattle.ascii.specs.Code.{code_of}
 use Rattle.ascii.specs.declared.ascii_str.AsciiStr.{AsciiStr}
 use Rattle.ascii_formats.specs.declared.parts.Expected.{Expected}
-use Rattle.ascii_formats.specs.declared.parts.Expected.TheVariants.{Char, Characters, Named, Quoted}
+use Rattle.ascii_formats.specs.declared.parts.Expected.TheVariants.{Char, Characters, Digits}
+use Rattle.ascii_formats.specs.declared.parts.Expected.TheVariants.{Named, Quoted}
 use Rattle.ascii_formats.specs.declared.parts.ParseError.{ParseError}
 use Rattle.ascii_formats.specs.declared.parts.ParseError.TheVariants.{At, Memory}
 use Rattle.ascii_formats.specs.declared.numbers.NumberError.{NumberError}
@@ -13,7 +16,8 @@ use Rattle.ascii_formats.specs.declared.parts.Part.{Part}
 use Rattle.ascii_formats.specs.declared.quotes.QuoteError.{QuoteError}
 use Rattle.ascii_formats.specs.declared.quotes.QuoteError.TheVariants.{NoQuote, NotClosed}
 use Rattle.ascii_formats.specs.Numbers.{IsFaultIn, NumberRange}
-use Rattle.ascii_formats.specs.Quotes.{IsQuoteFault}
+use Rattle.ascii_formats.specs.Quotes.{IsQuoteFault, StartsQuoted}
+use Rattle.ascii.specs.Parts.{WithStart}
 use Rattle.ascii.specs.Trim.{IsSpan, TrimsEnd, TrimsStart}
 use Rattle.ascii.specs.View.{debug_text, text_of}
 
@@ -61,6 +65,28 @@ abbrev pub IsUntakable : (ℕ → Type 0) → ℕ → List ℕ → Type 0
 IsUntakable Is most text = (front : List ℕ) × (rest : List ℕ) × IsSpan Is text front rest
     × ((front ≡ []) ⊎ (most < length front))
 
+-- `sides` are the first `count` codes of `part`, which are digits, and the rest
+pub record AreDigits (count : ℕ) (part : Part) (sides : Part × Part) : Type 0 where
+  pub exact : length (part_text sides.0) ≡ count
+  pub digits : All IsDigit (part_text sides.0)
+  pub place : AreSidesOf 0 part sides
+  pub followed : IsFollowed part (part_text sides.0) sides.1
+
+-- `text` has fewer than `count` codes, or the first `count` of them are not all digits
+abbrev pub LacksDigits : ℕ → List ℕ → Type 0
+LacksDigits count text = (length text < count) ⊎ ¬ (All IsDigit (take count text))
+
+-- `sides` are what is between the quotes of the quoted text at the start of `part`, and the rest
+pub record IsQuotedIn (quote escape : ℕ) (part : Part) (sides : Part × Part) : Type 0 where
+  pub quoted : StartsQuoted quote escape (part_text part) (part_text sides.0) (part_text sides.1)
+  pub place : AreSidesFrom (part.start + 1) 1 part sides
+  pub followed : IsFollowed part (quote ∷ (part_text sides.0 ++ quote ∷ [])) sides.1
+
+-- no quoted text is at the start of `text`
+abbrev pub HasNoQuoted : ℕ → ℕ → List ℕ → Type 0
+HasNoQuoted quote escape text =
+    (inside rest : List ℕ) → ¬ (StartsQuoted quote escape text inside rest)
+
 -- the part at fault is a part of `text`
 abbrev pub IsErrorIn : AsciiStr → ParseError → Type 0
 IsErrorIn text (At part expected) = part.whole ≡ text
@@ -71,6 +97,7 @@ abbrev pub expected_text : Expected → List ℕ
 expected_text (Char ch) = codes "expected '" ++ (code_of ch ∷ codes "'")
 expected_text (Characters most) =
     codes "expected 1 to " ++ (decimal most ++ codes " characters of a kind")
+expected_text (Digits count) = codes "expected a " ++ (decimal count ++ codes "-digit number")
 expected_text Quoted = codes "expected a quoted text"
 expected_text (Named name) = codes "expected " ++ name.now
 
@@ -100,6 +127,15 @@ abbrev pub IsPartQuoteFault : ℕ → ℕ → Part → QuoteError → Type 0
 IsPartQuoteFault quote escape part NoQuote = IsQuoteFault quote escape (part_text part) NoQuote
 IsPartQuoteFault quote escape part (NotClosed p) = (p ≡ part.end)
     × IsQuoteFault quote escape (part_text part) (NotClosed (length (part_text part)))
+
+-- the whole of `part`, and its text with its start
+abbrev pub in_whole : Part → AsciiStr × WithStart (List ℕ)
+in_whole part = (part.whole, record { start = part.start; item = part_text part })
+
+-- the items of the text of `part` at `spans`, each with the whole of `part` and its start in that
+abbrev pub parts_of : Part → List (WithStart (List ℕ)) → List (AsciiStr × WithStart (List ℕ))
+parts_of part spans = map
+    (λ span. (part.whole, record { start = part.start + span.start; item = span.item })) spans
 
 -- the `{:?}` output of `part`: its start, its end and its text
 abbrev pub part_debug : Part → List ℕ

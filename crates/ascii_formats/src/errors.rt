@@ -39,11 +39,13 @@ impl fmt::Display for Expected {
 
     ///     Expected::Char(AsciiChar::Equal).to_string(alloc)? // "expected '='"
     ///     Expected::Characters(3).to_string(alloc)? // "expected 1 to 3 characters of a kind"
+    ///     Expected::Digits(2).to_string(alloc)? // "expected a 2-digit number"
     ///     Expected::Named("a time").to_string(alloc)? // "expected a time"
     fn fmt<W: fmt::Write>(&self, f: &mut fmt::Formatter<W>) -> fmt::Result {
         match self {
             Expected::Char(ch) => write!(f, "expected '{ch}'"),
             Expected::Characters(most) => { write!(f, "expected 1 to {most} characters of a kind") }
+            Expected::Digits(count) => write!(f, "expected a {count}-digit number"),
             Expected::Quoted => f.write_str("expected a quoted text"),
             Expected::Named(name) => write!(f, "expected {name}"),
         }

@@ -24,6 +24,7 @@ mod line_feeds;
 pub mod notations;
 pub mod numbers;
 mod padding;
+pub mod part_iter;
 pub mod parts;
 pub mod places;
 pub mod quotes;

@@ -4,12 +4,14 @@
 //! |---|---|
 //! | `of` | all of a text |
 //! | `text`, `len`, `is_empty` | what is in the part |
-//! | `trim` | the part without the whitespace at its ends |
+//! | `trim`, `trim_matches` | the part without the whitespace, or what is in a class, at its ends |
 //! | `split_once`, `split_at`, `span` | the two sides of a cut |
 //! | `take_some` | the characters of a class at the start, one at least, and the rest |
-//! | `take`, `expect` | such characters up to a number, or a character, and the rest; or an error |
+//! | `take`, `digits` | such characters up to a number, or a number of digits, and the rest; or an error |
+//! | `expect`, `expect_quoted` | what comes after a character, or a quoted text and what comes after it; or an error |
 //! | `strip_prefix`, `strip_prefix_char` | what comes after a prefix |
-//! | `quoted` | a quoted text, and what comes after it |
+//! | `quoted` | a quoted text and what comes after it, or why there is none |
+//! | `words` | an iterator over the words, each as a part |
 //! | `to_number` | a number, or an error with the position in the whole text |
 //! | `line_and_column`, `fault` | the line and the column of the start; what is wrong there |
 //!
@@ -43,7 +45,7 @@ use crate::numbers::{Number, NumberError};
 use crate::places::{Fault, Place};
 use crate::quotes::QuoteError;
 use crate::views::AsciiStrExt;
-use ascii::classes::Searched;
+use ascii::classes::{Digit, Searched, Whitespace};
 use ascii::{AsciiChar, AsciiRange, AsciiStr};
 use std::fmt;
 
@@ -67,6 +69,8 @@ pub enum Expected {
     Char(AsciiChar),
     /// Characters of a class, one at least and at most this number.
     Characters(usize),
+    /// This number of digits.
+    Digits(usize),
     /// A quoted text.
     Quoted,
     /// Something that has this name.
@@ -82,10 +86,14 @@ pub enum ParseError<'a> {
     Memory,
 }
 
+/// What a parser takes from the start of a part, and the rest of the part; or why it stopped.
+pub type Taken<'a, T> = Result<(T, Part<'a>), ParseError<'a>>;
+
 impl<'a> Part<'a> {
     ghost use Rattle.std.specs.List.{Contains};
-    ghost use Rattle.ascii_formats.specs.Parts.{AreSidesFrom, AreSidesOf, IsFollowed, IsFrontTo};
-    ghost use Rattle.ascii_formats.specs.Parts.{IsTaken, IsUntakable};
+    ghost use Rattle.ascii_formats.specs.Parts.{AreDigits, AreSidesFrom, AreSidesOf, IsFollowed};
+    ghost use Rattle.ascii_formats.specs.Parts.{IsFrontTo, IsQuotedIn, IsTaken, IsUntakable};
+    ghost use Rattle.ascii_formats.specs.Parts.{HasNoQuoted, LacksDigits};
     ghost use Rattle.ascii_formats.specs.Parts.{IsPartFault, IsPartQuoteFault, IsRestFrom};
     ghost use Rattle.ascii_formats.specs.Parts.{IsTrimmed, part_text};
 
@@ -177,12 +185,22 @@ impl<'a> Part<'a> {
     ///
     ///     Part::of(AsciiStr::literal(" a b\r\n")).trim() // 1..4 "a b"
     ///     Part::of(AsciiStr::literal(" \t")).trim() // 2..2 ""
-    #[tactic(auto, using(crate::proofs::PartsLemmas::part_lengths))]
     pub fn trim(self) -> Part<'a>
         ensures { IsTrimmed IsWhitespace self.entry result }
     {
-        let tail = self.rest(self.text().trim_start());
-        tail.front(tail.text().trim_end())
+        self.trim_matches::<Whitespace>()
+    }
+
+    /// Returns the part without the characters at both of its ends that are in the class.
+    ///
+    ///     Part::of(AsciiStr::literal("(a-b),")).trim_matches::<Punctuation>() // 1..4 "a-b"
+    ///     Part::of(AsciiStr::literal("--")).trim_matches::<Punctuation>() // 2..2 ""
+    #[tactic(auto, using(crate::proofs::PartsLemmas::part_lengths))]
+    pub fn trim_matches<C: Searched>(self) -> Part<'a>
+        ensures { IsTrimmed C.is self.entry result }
+    {
+        let tail = self.rest(self.text().trim_start_matches::<C>());
+        tail.front(tail.text().trim_end_matches::<C>())
     }
 
     /// Returns the sides of the part before and after its first `on`, or `None` if the part does
@@ -260,7 +278,7 @@ impl<'a> Part<'a> {
     ///
     ///     Part::of(AsciiStr::literal("42px")).take::<Digit>(3) // Ok((0..2 "42", 2..4 "px"))
     ///     Part::of(AsciiStr::literal("42px")).take::<Digit>(1) // Err(At(0..4 "42px", Characters(1)))
-    pub fn take<C: Searched>(self, most: usize) -> Result<(Part<'a>, Part<'a>), ParseError<'a>>
+    pub fn take<C: Searched>(self, most: usize) -> Taken<'a, Part<'a>>
         ensures taken { MatchResult result (IsTaken C.is most self.entry)
             (λ error. error ≡ ParseError.At self.entry (Expected.Characters most)) }
         ensures none { OnErr result (IsUntakable C.is most (part_text self.entry)) }
@@ -270,6 +288,26 @@ impl<'a> Part<'a> {
             return Err(ParseError::At(self, Expected::Characters(most)));
         }
         Ok((front, rest))
+    }
+
+    /// Returns the first `count` characters of the part, which are digits, and the rest, or an error if
+    /// one of them is not a digit, or the part has fewer characters. The rest may start with a digit.
+    ///
+    ///     Part::of(AsciiStr::literal("0930Z")).digits(2) // Ok((0..2 "09", 2..5 "30Z"))
+    ///     Part::of(AsciiStr::literal("9:30Z")).digits(2) // Err(At(0..5 "9:30Z", Digits(2)))
+    #[tactic(auto, using(crate::proofs::PartsLemmas::part_lengths))]
+    pub fn digits(self, count: usize) -> Taken<'a, Part<'a>>
+        ensures taken { MatchResult result (AreDigits count self.entry)
+            (λ error. error ≡ ParseError.At self.entry (Expected.Digits count)) }
+        ensures none { OnErr result (LacksDigits count (part_text self.entry)) }
+    {
+        if count <= self.len() {
+            let (front, rest) = self.split_at(count);
+            if front.text().is_all::<Digit>() {
+                return Ok((front, rest));
+            }
+        }
+        Err(ParseError::At(self, Expected::Digits(count)))
     }
 
     /// Returns the part without `prefix`, or `None` if the part does not start with it.
@@ -349,6 +387,24 @@ impl<'a> Part<'a> {
         }
     }
 
+    /// Returns the text between the quotes at the start of the part, and the part after them, or an
+    /// error if no quoted text is there; the error of `quoted` also says why.
+    ///
+    ///     Part::of(AsciiStr::literal("'a' b")).expect_quoted(AsciiChar::Apostrophe, AsciiChar::BackSlash) // Ok((1..2 "a", 3..5 " b"))
+    ///     Part::of(AsciiStr::literal("'a")).expect_quoted(AsciiChar::Apostrophe, AsciiChar::BackSlash) // Err(At(0..2 "'a", Quoted))
+    #[tactic(auto, using(crate::proofs::PartsLemmas::part_lengths))]
+    pub fn expect_quoted(self, quote: AsciiChar, escape: AsciiChar) -> Taken<'a, Part<'a>>
+        ensures taken { MatchResult result (IsQuotedIn (code_of quote) (code_of escape) self.entry)
+            (λ error. error ≡ ParseError.At self.entry Expected.Quoted) }
+        ensures none { OnErr result
+            (HasNoQuoted (code_of quote) (code_of escape) (part_text self.entry)) }
+    {
+        match self.quoted(quote, escape) {
+            Ok(sides) => Ok(sides),
+            Err(_) => Err(ParseError::At(self, Expected::Quoted)),
+        }
+    }
+
     /// Returns the number that the digits of the part write, or an error with the first position at
     /// fault, counted from the start of the whole text. `Empty` has no position: the part is empty, or
     /// for a signed type `-` alone.
@@ -389,6 +445,24 @@ impl<'a> Part<'a> {
             result ≡ record { place = place; what = what } }
     {
         self.whole.fault_at(self.start, what)
+    }
+}
+
+impl fmt::Display for Part<'_> {
+    ghost use Rattle.std.specs.Fmt.{styled_text};
+    ghost use Rattle.ascii_formats.specs.Parts.{part_text};
+
+    ghost output = { λ part. Some (part_text part) };
+
+    ghost styled_output = { λ part spec. Some (styled_text spec (part_text part)) };
+
+    /// Writes the text of the part, with the width, the alignment and the precision of the format, as
+    /// for `str`.
+    ///
+    ///     Part::of(AsciiStr::literal(" a b ")).trim().to_string(alloc)? // "a b"
+    ///     format!(in alloc; "{:>3}", Part::of(AsciiStr::literal("a")))? // "  a"
+    fn fmt<W: fmt::Write>(&self, f: &mut fmt::Formatter<W>) -> fmt::Result {
+        fmt::Display::fmt(&self.text(), f)
     }
 }
 

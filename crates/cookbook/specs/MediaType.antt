@@ -11,7 +11,8 @@ use Rattle.ascii.specs.View.{text_of}
 use Rattle.ascii.specs.declared.ascii_str.AsciiStr.{AsciiStr}
 use Rattle.ascii_formats.specs.Parts.{part_text}
 use Rattle.ascii_formats.specs.Quotes.{Quotable, StartsQuoted}
-use Rattle.ascii_formats.specs.declared.parts.Expected.TheVariants.{Char, Characters, Named, Quoted}
+use Rattle.ascii_formats.specs.declared.parts.Expected.TheVariants.{Char, Characters, Digits}
+use Rattle.ascii_formats.specs.declared.parts.Expected.TheVariants.{Named, Quoted}
 use Rattle.ascii_formats.specs.declared.parts.ParseError.{ParseError}
 use Rattle.ascii_formats.specs.declared.parts.ParseError.TheVariants.{At, Memory}
 use Rattle.ascii_formats.specs.declared.parts.Part.{Part}
@@ -60,6 +61,7 @@ abbrev pub IsMissing : AsciiStr → ParseError → Type 0
 IsMissing text (At part (Char ch)) =
     (part.whole ≡ text) × ¬ (StartsWith (code_of ch ∷ []) (part_text part))
 IsMissing text (At part (Characters most)) = ⊥
+IsMissing text (At part (Digits count)) = ⊥
 IsMissing text (At part Quoted) = (part.whole ≡ text)
     × ((rest : List ℕ) × (part_text part ≡ 34 ∷ rest))
     × ((inside rest : List ℕ) → ¬ (StartsQuoted 34 92 (part_text part) inside rest))

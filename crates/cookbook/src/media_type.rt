@@ -11,7 +11,7 @@ ghost use Rattle.cookbook.specs.MediaType.{IsSection, IsToken, IsValue, Takes};
 
 use ascii::classes::{Blank, Token};
 use ascii::{AsciiChar, AsciiStr};
-use ascii_formats::parts::{Expected, ParseError, Part};
+use ascii_formats::parts::{Expected, ParseError, Part, Taken};
 use ascii_formats::quotes::QuoteError;
 use std::alloc::Global;
 
@@ -34,9 +34,6 @@ pub struct Parameter<'a> {
     /// The token after the `=`; or what is between the quotes there, as it is written: `unquote` reads it.
     pub value: AsciiStr<'a>,
 }
-
-/// Something from the start of a part, and the rest of the part.
-type Taken<'a, T> = Result<(T, Part<'a>), ParseError<'a>>;
 
 impl<'a> MediaType<'a> {
     /// Returns the media type that a text says, or an error with what is missing, and where. For

@@ -50,7 +50,12 @@ fn part_by<'a>(part: Part<'a>, step: Step, texts: AsciiStr) -> Result<Part<'a>, 
         9 => Ok(quoted_part(part, ch)?.1),
         10 => part.strip_prefix_char(ch).ok_or(NOTHING),
         11 => Ok(part.take_some::<Digit>().ok_or(NOTHING)?.0),
-        _ => Ok(part.take_some::<Digit>().ok_or(NOTHING)?.1),
+        12 => Ok(part.take_some::<Digit>().ok_or(NOTHING)?.1),
+        13 => Ok(part.digits(step.at).ok().ok_or(NOTHING)?.0),
+        14 => Ok(part.digits(step.at).ok().ok_or(NOTHING)?.1),
+        15 => Ok(part.expect_quoted(ch, ch).ok().ok_or(NOTHING)?.1),
+        16 => part.words::<Digit>().nth(step.at).ok_or(NOTHING),
+        _ => Ok(part.trim_matches::<Digit>()),
     }
 }
 
@@ -83,6 +88,6 @@ pub fn ask_place(alloc: Global, at: usize, source: AsciiStr, answer: &mut Answer
         answer.put_result(format!(in alloc; "{fault}"));
         let (_before, part) = Part::of(source).split_at(at);
         let fault = part.fault("no '='");
-        answer.put_result(format!(in alloc; "{part:?} {fault}"));
+        answer.put_result(format!(in alloc; "{part} {part:?} {fault}"));
     }
 }
