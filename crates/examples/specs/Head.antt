@@ -15,12 +15,14 @@ use Rattle.examples.specs.declared.head.HeadersError.{HeadersError}
 use Rattle.examples.specs.declared.head.HeadersError.TheVariants.{Memory, NotHeader, Twice}
 use Rattle.examples.specs.declared.head.RequestLine.{RequestLine}
 
--- `line` is a method, a target and a version, with single spaces between them
+-- `line` is a method, a target and a version, `HTTP/1.` and one digit, with single spaces between
+-- them
 pub record IsRequestLine (line : List ℕ) (request : RequestLine) : Type 0 where
   pub digits : List ℕ
   pub joined : line ≡ text_of request.method
       ++ 32 ∷ (text_of request.target ++ 32 ∷ (codes "HTTP/1." ++ digits))
   pub version : WritesNumber (2 ^ 8 - 1) digits request.minor
+  pub one_digit : length digits ≡ 1
   pub method_some : text_of request.method ≢ []
   pub method_token : All IsTokenCode (text_of request.method)
   pub target_some : text_of request.target ≢ []

@@ -13,7 +13,6 @@ use Rattle.ascii_formats.specs.declared.parts.ParseError.{ParseError}
 use Rattle.ascii_formats.specs.declared.parts.Part.{Part}
 use Rattle.examples.specs.declared.syslog.Element.{Element}
 use Rattle.examples.specs.declared.syslog.Message.{Message}
-use Rattle.examples.specs.declared.syslog.Number.{Number}
 use Rattle.examples.specs.declared.syslog.Param.{Param}
 use Rattle.jiff.specs.Words.{parse_timestamp}
 use Rattle.jiff.specs.declared.timestamp.Timestamp.{Timestamp}
@@ -23,11 +22,11 @@ abbrev pub IsNameCode : ℕ → Type 0
 IsNameCode code = IsInRange 33 33 code ⊎ IsInRange 35 60 code ⊎ IsInRange 62 92 code
     ⊎ IsInRange 94 126 code
 
--- `number` is up to three digits that write a number of at most `most`
-pub record IsNumber (most : ℕ) (number : Number) : Type 0 where
-  pub digits : WritesNumber (2 ^ 16 - 1) (part_text number.digits) number.value
-  pub short : length (part_text number.digits) ≤ 3
-  pub low : number.value ≤ most
+-- the first of `number` is up to three digits that write the second, a number of at most `most`
+pub record IsNumber (most : ℕ) (number : Part × ℕ) : Type 0 where
+  pub digits : WritesNumber (2 ^ 16 - 1) (part_text number.0) number.1
+  pub short : length (part_text number.0) ≤ 3
+  pub low : number.1 ≤ most
 
 -- `part` is up to `most` codes of the class `Is`, and one at least
 pub record IsField (Is : ℕ → Type 0) (most : ℕ) (part : Part) : Type 0 where
@@ -70,7 +69,7 @@ data_text (element ∷ elements) = flat_map element_text (element ∷ elements)
 
 -- `line` is the parts of `message` in order, each of its form
 pub record IsMessage (line : List ℕ) (message : Message) : Type 0 where
-  pub joined : 60 ∷ (part_text message.priority.digits ++ 62 ∷ (part_text message.version.digits
+  pub joined : 60 ∷ (part_text message.priority.0 ++ 62 ∷ (part_text message.version.0
       ++ 32 ∷ (part_text message.time ++ 32 ∷ (part_text message.host
       ++ 32 ∷ (part_text message.app ++ 32 ∷ (part_text message.process
       ++ 32 ∷ (part_text message.id ++ 32 ∷ (data_text message.elements.items

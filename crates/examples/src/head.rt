@@ -7,7 +7,7 @@ ghost use Rattle.examples.specs.Head.{AreHeaders, IsHeadersError, IsRequestLine}
 
 use ascii::classes::{Graphic, Token};
 use ascii_formats::AsciiStrExt;
-use ascii_formats::parts::ParseError;
+use ascii_formats::parts::{ParseError, Part};
 use ascii_keys::FoldedMap;
 use ascii_lines::{
     AsciiChar, AsciiStr, Block, BlockEnd, Endings, Input, LineReader, OwnedLine, read_block,
@@ -42,18 +42,21 @@ pub fn read_request_line<'a>(line: AsciiStr<'a>) -> Option<RequestLine<'a>>
 {
     let (method, rest) = line.split_once(AsciiChar::Space)?;
     let (target, version) = rest.split_once(AsciiChar::Space)?;
-    let digits = version.strip_prefix(AsciiStr::literal("HTTP/1."))?;
-    let minor = digits.to_number::<u8>().ok()?;
+    let digits = Part::of(version).strip_prefix(AsciiStr::literal("HTTP/1."))?;
+    let (minor, end) = digits.digits(1).ok()?;
     if method.is_empty() || !method.is_all::<Token>() {
         return None;
     }
     if target.is_empty() || !target.is_all::<Graphic>() {
         return None;
     }
+    if !end.is_empty() {
+        return None;
+    }
     Some(RequestLine {
         method,
         target,
-        minor,
+        minor: minor.to_number::<u8>().ok()?,
     })
 }
 

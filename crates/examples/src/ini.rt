@@ -147,13 +147,7 @@ pub fn main(rt: HostRuntime) -> io::Result<()> {
                     key,
                     value,
                 } = entry;
-                println!(rt;
-                    "{}: [{}] {} = {}",
-                    value.line_and_column(),
-                    section.text(),
-                    key.text(),
-                    value.text()
-                )?;
+                println!(rt; "{}: [{section}] {key} = {value}", value.line_and_column())?;
             }
             Ok(())
         }

@@ -1,28 +1,20 @@
 //! Prints what each line of a log in the form of RFC 5424 says, or the column at which it is at fault.
 #![tactic(auto)]
 
-ghost use Rattle.std.specs.Prelude.{◌≡◌, ◌∷◌, [], IfOk, MatchResult};
+ghost use Rattle.std.specs.Prelude.{IfOk, MatchResult};
 ghost use Rattle.std.proofs.Common.{rules};
-ghost use Rattle.ascii.specs.Code.{code_of};
 ghost use Rattle.ascii.specs.View.{text_of};
 ghost use Rattle.ascii_formats.specs.Parts.{IsErrorIn, part_text};
-ghost use Rattle.examples.specs.Log.{AreElements, IsElement, IsField, IsInstant, IsMessage};
-ghost use Rattle.examples.specs.Log.{IsNumber, IsParam, Takes, data_text, element_text, param_text};
+ghost use Rattle.examples.specs.Log.{AreElements, IsElement, IsInstant, IsMessage, IsNumber};
+ghost use Rattle.examples.specs.Log.{IsParam, Takes, data_text, element_text, param_text};
 
-use ascii::classes::{ByRanges, Digit, Graphic, Ranges, Searched};
+use ascii::classes::{ByRanges, Digit, Graphic, Ranges};
 use ascii::{AsciiChar, AsciiStr, text};
 use ascii_formats::AsciiStrExt;
-use ascii_formats::parts::{Expected, ParseError, Part};
+use ascii_formats::parts::{Expected, ParseError, Part, Taken};
 use jiff::Timestamp;
 use std::alloc::Global;
 use std::io::{self, Read};
-
-/// Digits, and the number that they write.
-#[derive(Clone, Copy)]
-pub struct Number<'a> {
-    pub digits: Part<'a>,
-    pub value: u16,
-}
 
 /// A parameter of an element; its value with the escapes as they are written.
 #[derive(Clone, Copy)]
@@ -38,12 +30,12 @@ pub struct Element<'a> {
     pub params: Vec<Param<'a>>,
 }
 
-/// A message. A field that is not known is `-`; the instant is that of the time, if it is known. The text has the
-/// space before it.
+/// A message. A number is its digits and its value. A field that is not known is `-`; the instant is that of the time,
+/// if it is known. The text has the space before it.
 #[derive(Drop)]
 pub struct Message<'a> {
-    pub priority: Number<'a>,
-    pub version: Number<'a>,
+    pub priority: (Part<'a>, u16),
+    pub version: (Part<'a>, u16),
     pub time: Part<'a>,
     pub instant: Option<Timestamp>,
     pub host: Part<'a>,
@@ -53,9 +45,6 @@ pub struct Message<'a> {
     pub elements: Vec<Element<'a>>,
     pub text: Part<'a>,
 }
-
-/// What is taken from the start of a part, and the rest of the part.
-pub type Taken<'a, T> = Result<(T, Part<'a>), ParseError<'a>>;
 
 pub struct NameRanges;
 
@@ -83,16 +72,16 @@ pub type Name = ByRanges<NameRanges>;
 pub fn read_message<'a>(alloc: Global, line: AsciiStr<'a>) -> Result<Message<'a>, ParseError<'a>>
     ensures { MatchResult result (IsMessage (text_of line.entry)) (IsErrorIn line.entry) }
 {
-    let (priority, rest) = take_digits(Part::of(line), AsciiChar::LessThan, 191)?;
-    let (version, rest) = take_digits(rest, AsciiChar::GreaterThan, 999)?;
-    let (time, rest) = take_field::<Graphic>(rest, AsciiChar::Space, 32)?;
+    let (priority, rest) = take_digits(Part::of(line).expect(AsciiChar::LessThan)?, 191)?;
+    let (version, rest) = take_digits(rest.expect(AsciiChar::GreaterThan)?, 999)?;
+    let (time, rest) = rest.expect(AsciiChar::Space)?.take::<Graphic>(32)?;
     let Ok(instant) = read_instant(time.text()) else {
         return Err(ParseError::At(time, Expected::Named("a time")));
     };
-    let (host, rest) = take_field::<Graphic>(rest, AsciiChar::Space, 255)?;
-    let (app, rest) = take_field::<Graphic>(rest, AsciiChar::Space, 48)?;
-    let (process, rest) = take_field::<Graphic>(rest, AsciiChar::Space, 128)?;
-    let (id, rest) = take_field::<Graphic>(rest, AsciiChar::Space, 32)?;
+    let (host, rest) = rest.expect(AsciiChar::Space)?.take::<Graphic>(255)?;
+    let (app, rest) = rest.expect(AsciiChar::Space)?.take::<Graphic>(48)?;
+    let (process, rest) = rest.expect(AsciiChar::Space)?.take::<Graphic>(128)?;
+    let (id, rest) = rest.expect(AsciiChar::Space)?.take::<Graphic>(32)?;
     let (elements, text) = take_data(alloc, rest.expect(AsciiChar::Space)?)?;
     if !text.is_empty() {
         text.expect(AsciiChar::Space)?;
@@ -111,23 +100,13 @@ pub fn read_message<'a>(alloc: Global, line: AsciiStr<'a>) -> Result<Message<'a>
     })
 }
 
-/// Takes a character, and after it up to `most` characters of a class, and one at least.
-fn take_field<'a, C: Searched>(rest: Part<'a>, mark: AsciiChar, most: usize) -> Taken<'a, Part<'a>>
-    ensures taken { Takes (IsField C.is most) (λ field. code_of mark ∷ part_text field)
-        rest.entry result }
-    ensures whole { IfOk result (λ taken. taken.0.whole ≡ rest.entry.whole) }
+/// Takes up to three digits that write a number up to `most`.
+fn take_digits<'a>(start: Part<'a>, most: u16) -> Taken<'a, (Part<'a>, u16)>
+    ensures { Takes (IsNumber most) (λ number. part_text number.0) start.entry result }
 {
-    rest.expect(mark)?.take::<C>(most)
-}
-
-/// Takes a character, and after it up to three digits that write a number up to `most`.
-fn take_digits<'a>(rest: Part<'a>, mark: AsciiChar, most: u16) -> Taken<'a, Number<'a>>
-    ensures { Takes (IsNumber most) (λ number. code_of mark ∷ part_text number.digits)
-        rest.entry result }
-{
-    let (digits, after) = take_field::<Digit>(rest, mark, 3)?;
+    let (digits, rest) = start.take::<Digit>(3)?;
     match digits.to_number::<u16>() {
-        Ok(value) if value <= most => Ok((Number { digits, value }, after)),
+        Ok(value) if value <= most => Ok(((digits, value), rest)),
         _ => Err(ParseError::At(digits, Expected::Named("a smaller number"))),
     }
 }
@@ -163,45 +142,39 @@ fn take_data<'a>(alloc: Global, start: Part<'a>) -> Taken<'a, Vec<Element<'a>>>
 fn take_element<'a>(alloc: Global, start: Part<'a>) -> Taken<'a, Element<'a>>
     ensures { Takes IsElement element_text start.entry result }
 {
-    let (id, mut rest) = take_field::<Name>(start, AsciiChar::BracketOpen, 32)?;
+    let (id, mut rest) = start.expect(AsciiChar::BracketOpen)?.take::<Name>(32)?;
     let mut params = Vec::new(alloc);
     'params: while rest.text().starts_with_char(AsciiChar::Space) {
         let (param, after) = take_param(rest)?;
         params.push(param).map_err(|_| ParseError::Memory)?;
         rest = after;
     }
-    Ok((
-        Element { id, params },
-        rest.expect(AsciiChar::BracketClose)?,
-    ))
+    rest = rest.expect(AsciiChar::BracketClose)?;
+    Ok((Element { id, params }, rest))
 }
 
 /// Takes a parameter, ` name="value"`.
 fn take_param<'a>(start: Part<'a>) -> Taken<'a, Param<'a>>
     ensures { Takes IsParam param_text start.entry result }
 {
-    let (name, rest) = take_field::<Name>(start, AsciiChar::Space, 32)?;
+    let (name, rest) = start.expect(AsciiChar::Space)?.take::<Name>(32)?;
     let quoted = rest.expect(AsciiChar::Equal)?;
-    match quoted.quoted(AsciiChar::Quotation, AsciiChar::BackSlash) {
-        Ok((value, rest)) => Ok((Param { name, value }, rest)),
-        Err(_) => Err(ParseError::At(quoted, Expected::Quoted)),
-    }
+    let (value, rest) = quoted.expect_quoted(AsciiChar::Quotation, AsciiChar::BackSlash)?;
+    Ok((Param { name, value }, rest))
 }
 
 /// Prints the parts of a message.
 fn show(rt: &HostRuntime, message: &Message<'_>) -> io::Result<()> {
-    let (host, app, text) = (message.host.text(), message.app.text(), message.text.text());
     match message.instant {
-        Some(instant) => print!(rt; "{} {instant}", message.priority.value)?,
-        None => print!(rt; "{} -", message.priority.value)?,
+        Some(instant) => print!(rt; "{} {instant}", message.priority.1)?,
+        None => print!(rt; "{} -", message.priority.1)?,
     }
-    println!(rt; " {host} {app}:{text}")?;
+    println!(rt; " {} {}:{}", message.host, message.app, message.text)?;
     for element in &message.elements {
-        println!(rt; "- {}", element.id.text())?;
-        for param in &element.params {
-            let quoted = param.value.text();
-            let value = quoted.unquote(rt.alloc(), AsciiChar::BackSlash)?;
-            println!(rt; "  {}: {value}", param.name.text())?;
+        println!(rt; "- {}", element.id)?;
+        for Param { name, value } in &element.params {
+            let value = value.text().unquote(rt.alloc(), AsciiChar::BackSlash)?;
+            println!(rt; "  {name}: {value}")?;
         }
     }
     Ok(())

@@ -12,7 +12,7 @@ ghost use Rattle.examples.specs.Tokens.{AreLaid, IsErrorOf, IsTaken, IsTokenOf, 
 use ascii::classes::{ByRanges, Digit, Punctuation, Ranges, Whitespace};
 use ascii::{AsciiChar, AsciiStr, text};
 use ascii_formats::AsciiStrExt;
-use ascii_formats::parts::{Expected, ParseError, Part};
+use ascii_formats::parts::{Expected, ParseError, Part, Taken};
 use std::alloc::Global;
 use std::io::{self, Read};
 
@@ -103,7 +103,7 @@ pub fn read_tokens<'a>(alloc: Global, text: AsciiStr<'a>) -> Result<Vec<Token<'a
 }
 
 /// Takes a token from the start of a text that is not empty.
-fn take_token<'a>(text: Part<'a>) -> Result<(Token<'a>, Part<'a>), ParseError<'a>>
+fn take_token<'a>(text: Part<'a>) -> Taken<'a, Token<'a>>
     requires { part_text text ≢ [] }
     ensures { MatchResult result (IsTaken text.entry) (IsErrorOf text.entry.whole) }
 {
@@ -120,13 +120,15 @@ fn take_token<'a>(text: Part<'a>) -> Result<(Token<'a>, Part<'a>), ParseError<'a
         return Ok((Token { kind, part }, rest));
     }
     if text.text().starts_with_char(AsciiChar::Quotation) {
-        return take_quoted(text);
+        let (part, rest) = text.expect_quoted(AsciiChar::Quotation, AsciiChar::BackSlash)?;
+        let kind = Kind::Quoted;
+        return Ok((Token { kind, part }, rest));
     }
     take_mark(text)
 }
 
 /// Takes a comment or a punctuation mark from the start of a text that is not empty.
-fn take_mark<'a>(text: Part<'a>) -> Result<(Token<'a>, Part<'a>), ParseError<'a>>
+fn take_mark<'a>(text: Part<'a>) -> Taken<'a, Token<'a>>
     requires { part_text text ≢ [] }
     ensures { MatchResult result (IsTaken text.entry) (IsErrorOf text.entry.whole) }
 {
@@ -141,19 +143,6 @@ fn take_mark<'a>(text: Part<'a>) -> Result<(Token<'a>, Part<'a>), ParseError<'a>
     Err(ParseError::At(text, Expected::Named("a token")))
 }
 
-/// Takes a quoted text from the start of a text.
-fn take_quoted<'a>(text: Part<'a>) -> Result<(Token<'a>, Part<'a>), ParseError<'a>>
-    ensures { MatchResult result (IsTaken text.entry) (IsErrorOf text.entry.whole) }
-{
-    match text.quoted(AsciiChar::Quotation, AsciiChar::BackSlash) {
-        Ok((part, rest)) => {
-            let kind = Kind::Quoted;
-            Ok((Token { kind, part }, rest))
-        }
-        Err(_) => Err(ParseError::At(text, Expected::Quoted)),
-    }
-}
-
 pub fn main(rt: HostRuntime) -> io::Result<()> {
     let mut source = String::new(rt.alloc());
     rt.stdin().read_to_string(&mut source)?;
@@ -166,7 +155,7 @@ pub fn main(rt: HostRuntime) -> io::Result<()> {
             for token in &tokens {
                 if token.kind != Kind::Space {
                     let place = token.part.line_and_column();
-                    println!(rt; "{place}: {:?} {}", token.kind, token.part.text())?;
+                    println!(rt; "{place}: {:?} {}", token.kind, token.part)?;
                 }
             }
             Ok(())
