@@ -237,9 +237,10 @@ FILTER = [
     Call("an output that is full", ["copy", "text", "none"], b"", 3, b"", FULL, "full"),
 ]
 
-OF_EXAMPLES = b"usage: examples events|head|host|ini|keys|lines|nmea|pager|paths|register|seen|syslog|tally|tokens|uniq\n"
+OF_EXAMPLES = b"usage: examples events|head|host|ini|keys|lines|nmea|pager|paths|register|seen|spell|syslog|tally|tokens|uniq\n"
 LINES_OF_A_REGISTER = b"GET\nhello\r\nGET\nno\377ascii\nGET\nQUIT\nGET\n"
 REPLIES_OF_A_REGISTER = b"\nOK\nhello\nBAD\nhello\nBYE\n"
+SPELLING = b"the cat's on a well-known mat\n\"The\tdog\", it's ON a mat --\n\n (cats)."
 HEAD = b"GET /a?b HTTP/1.1\r\nHost: a.example\r\nContent-Type: text/plain; CHARSET=utf-8\r\n%s\r\nbody"
 SETTINGS = b"; a comment\n[net]\nport = 80\n host=  a.example \n[disk]\npath =\n"
 SENTENCE = b"$GPGGA,123519,4807.038,N,01131.000,E,1,08,0.9,545.4,M,46.9,M,,*"
@@ -308,6 +309,8 @@ EXAMPLES = [
     Call("events to the end of the input", ["events"], b"a\nGET", 0, b"OK\na\n", b"Some(EndOfInput)\n"),
     Call("seen", ["seen"], b"b\na\r\nb\nB\n\nb\n\na", 0, b"b\na\nB\n\n"),
     Call("seen of a byte above 127", ["seen"], b"a\na\nz\303\244\n", 0, b"the byte at index 5 is not ASCII\n"),
+    Call("spell", ["spell"], SPELLING, 0, b"2:6: dog\n2:12: it's\n4:3: cats\n"),
+    Call("spell of one line", ["spell"], b"the", 0, b"no text\n"),
     Call("syslog", ["syslog"], LOG, 0, MESSAGES),
     Call("syslog of no line", ["syslog"], b"", 0, b""),
     Call("tally", ["tally"], b"To be, or not\tto BE,\n[to] TO\n", 0, b"1 [to]\n2 be,\n1 not\n1 or\n3 to\n"),

@@ -7,5 +7,6 @@ pub mod Register
 pub mod Search
 pub mod Seen
 pub mod Sentence
+pub mod Spelling
 pub mod Tally
 pub mod Tokens

@@ -12,6 +12,7 @@ mod pager;
 mod paths;
 mod register;
 mod seen;
+mod spell;
 mod syslog;
 mod tally;
 mod tokens;
@@ -37,13 +38,14 @@ fn main(rt: HostRuntime) -> io::Result<ExitCode> {
         b"paths" => paths::main(rt)?,
         b"register" => register::main(rt)?,
         b"seen" => seen::main(rt)?,
+        b"spell" => spell::main(rt)?,
         b"syslog" => syslog::main(rt)?,
         b"tally" => tally::main(rt)?,
         b"tokens" => tokens::main(rt)?,
         b"uniq" => uniq::main(rt)?,
         _ => {
             eprintln!(rt;
-                "usage: examples events|head|host|ini|keys|lines|nmea|pager|paths|register|seen|syslog|tally|tokens|uniq"
+                "usage: examples events|head|host|ini|keys|lines|nmea|pager|paths|register|seen|spell|syslog|tally|tokens|uniq"
             )?;
             return Ok(ExitCode::from(64));
         }
