@@ -59,21 +59,22 @@ fn part_by(text: &[u8], part: Part, step: Step, prefix: &[u8]) -> Result<Part, O
         7 => Ok((digits, end)),
         8 => Ok(quoted_parts(text, part, step.code, b'\\')?.0),
         9 => Ok(quoted_parts(text, part, step.code, b'\\')?.1),
-        10 => (found == Some(start)).then_some((start + 1, end)).ok_or(NOTHING),
+        10 | 19 => (found == Some(start)).then_some((start + 1, end)).ok_or(NOTHING),
         11 => (start < digits).then_some((start, digits)).ok_or(NOTHING),
         12 => (start < digits).then_some((digits, end)).ok_or(NOTHING),
         13 => Ok((start, counted.ok_or(NOTHING)?)),
         14 => Ok((counted.ok_or(NOTHING)?, end)),
         15 => Ok(quoted_parts(text, part, step.code, step.code).map_err(|_| NOTHING)?.1),
         16 => word_at(text, part, step.at).ok_or(NOTHING),
-        _ => Ok(trimmed(text, part, |byte| byte.is_ascii_digit())),
+        17 => Ok(trimmed(text, part, |byte| byte.is_ascii_digit())),
+        _ => (start < digits && digits - start <= step.at).then_some((digits, end)).ok_or(NOTHING),
     }
 }
 
 pub fn parts(random: &mut Random, asked: &mut Asked) {
     let text = random.text();
     let (mut texts, mut steps) = (Vec::new(), Vec::new());
-    for kind in random.script(18) {
+    for kind in random.script(20) {
         let (code, at) = (random.code_of(&text), random.place(text.len() / 2));
         let start = texts.len();
         texts.extend(random.needle(&text));

@@ -55,7 +55,9 @@ fn part_by<'a>(part: Part<'a>, step: Step, texts: AsciiStr) -> Result<Part<'a>, 
         14 => Ok(part.digits(step.at).ok().ok_or(NOTHING)?.1),
         15 => Ok(part.expect_quoted(ch, ch).ok().ok_or(NOTHING)?.1),
         16 => part.words::<Digit>().nth(step.at).ok_or(NOTHING),
-        _ => Ok(part.trim_matches::<Digit>()),
+        17 => Ok(part.trim_matches::<Digit>()),
+        18 => Ok(part.take::<Digit>(step.at).ok().ok_or(NOTHING)?.1),
+        _ => part.expect(ch).ok().ok_or(NOTHING),
     }
 }
 
