@@ -93,13 +93,8 @@ impl<V: Drop> AsciiMap<V> {
         self.entries.get_mut(key.as_str())
     }
 
-    /// Returns `true` if there is a value at `key`.
-    ///
-    ///     let mut ports = AsciiMap::new(alloc);
-    ///     ports.insert(AsciiStr::literal("http"), 80)?;
-    ///     ports.contains_key(AsciiStr::literal("http")) // true
-    ///     ports.contains_key(AsciiStr::literal("HTTP")) // false
-    pub fn contains_key(&self, key: AsciiStr<'_>) -> bool
+    /// Whether there is a value at `key`.
+    pub(crate) fn contains_key(&self, key: AsciiStr<'_>) -> bool
         ensures { result ≡ is_some (value_at self.now (text_of key.entry)) }
     {
         self.get(key).is_some()

@@ -43,7 +43,7 @@ fn put_step(map: &mut AsciiMap<usize>, step: Step, key: AsciiStr, answer: &mut A
                 answer.put((key, *value));
             }
         }
-        _ => answer.put(map.contains_key(key)),
+        _ => answer.put(map.get(key).is_some()),
     }
     answer.put((map.len(), map.is_empty()));
 }
