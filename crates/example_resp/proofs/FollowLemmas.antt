@@ -38,6 +38,12 @@ told_lines held new words command.Reply told says tells contents =
 told_lines held new words (command.Echo text) told (verb, arguments, (name, is, named), parts)
     tells contents = ap (reply_lines new words) tells
     ∙ ap value_reply (second words name text.now arguments is parts.1)
+told_lines held new words command.Choose told says tells contents =
+    ap (reply_lines new words) tells
+told_lines held new words command.Name told says tells contents =
+    ap (reply_lines new words) tells
+told_lines held new words command.Greet told says tells contents =
+    ap (reply_lines new words) tells
 told_lines held new words command.Leave told says tells contents =
     ap (reply_lines new words) tells
 

@@ -2,25 +2,30 @@
 use Rattle.std.specs.Map.{update}
 use Rattle.std.specs.Prelude.{◌≡◌, ◌≢◌, ◌⊎◌, ℕ, ◌<◌, List, [], ◌∷◌, ◌++◌, None, Option, Some, codes}
 use Rattle.std.specs.Prelude.{MatchResult, decimal, length, map, ⊤}
+use Rattle.std.specs.List.{flat_map}
 use Rattle.std.specs.Str.{bytes_eq}
 use Rattle.std.specs.declared.result.Result.{Result}
 use Rattle.ascii.specs.Case.{lower_image}
 use Rattle.example_resp.specs.Store.{Contents, removed_count, byte_lists, value_count, without}
 use Rattle.example_resp.specs.declared.commands.Command.{Command}
 use Rattle.example_resp.specs.declared.commands.Command.TheVariants.{SetValue, GetValue}
-use Rattle.example_resp.specs.declared.commands.Command.TheVariants.{CountValues, DeleteValues, Echo, Leave}
+use Rattle.example_resp.specs.declared.commands.Command.TheVariants.{Choose, CountValues, DeleteValues, Echo}
+use Rattle.example_resp.specs.declared.commands.Command.TheVariants.{Greet, Leave, Name}
 use Rattle.example_resp.specs.declared.commands.Command.TheVariants.{Reply}
 use Rattle.example_resp.specs.declared.commands.Rejection.{Rejection}
 use Rattle.example_resp.specs.declared.commands.Rejection.TheVariants.{BadCount, BadEnding, BadInput}
 use Rattle.example_resp.specs.declared.commands.Rejection.TheVariants.{BadLength, BadQuotes, Foreign}
 use Rattle.example_resp.specs.declared.commands.Rejection.TheVariants.{NoLength, NoMemory}
-use Rattle.example_resp.specs.declared.commands.Rejection.TheVariants.{UnknownCommand, WrongArguments}
+use Rattle.example_resp.specs.declared.commands.Rejection.TheVariants.{NoDatabase, NoProtocol}
+use Rattle.example_resp.specs.declared.commands.Rejection.TheVariants.{UnknownCommand}
+use Rattle.example_resp.specs.declared.commands.Rejection.TheVariants.{UnknownSubcommand}
+use Rattle.example_resp.specs.declared.commands.Rejection.TheVariants.{WrongArguments}
 use Rattle.example_resp.specs.declared.commands.Verb.{Verb}
 use Rattle.example_resp.specs.declared.replies.Reply as replies
 use Rattle.example_resp.specs.declared.replies.Reply.TheVariants as said
 use Rattle.example_resp.specs.declared.commands.Verb.TheVariants.{Set, Get, Del, Exists, Ping}
 use Rattle.example_resp.specs.declared.commands.Verb.TheVariants as verbs
-use Rattle.example_resp.specs.declared.commands.Verb.TheVariants.{Quit}
+use Rattle.example_resp.specs.declared.commands.Verb.TheVariants.{Client, Hello, Quit, Select}
 
 -- ---- what words say
 
@@ -32,6 +37,9 @@ name_of Del = codes "del"
 name_of Exists = codes "exists"
 name_of Ping = codes "ping"
 name_of verbs.Echo = codes "echo"
+name_of Select = codes "select"
+name_of Client = codes "client"
+name_of Hello = codes "hello"
 name_of Quit = codes "quit"
 
 -- the number of arguments that a verb takes
@@ -42,6 +50,9 @@ IsCount Del count = 0 < count
 IsCount Exists count = 0 < count
 IsCount Ping count = (count ≡ 0) ⊎ (count ≡ 1)
 IsCount verbs.Echo count = count ≡ 1
+IsCount Select count = count ≡ 1
+IsCount Client count = 0 < count
+IsCount Hello count = (count ≡ 0) ⊎ (count ≡ 1)
 IsCount Quit count = ⊤
 
 -- `word` is the name of `verb`, ignoring ASCII case
@@ -51,6 +62,17 @@ IsNameOf verb word = map lower_image word ≡ name_of verb
 -- a line of a request of HTTP may begin with `word`, ignoring ASCII case
 abbrev pub IsForeign : List ℕ → Type 0
 IsForeign word = (map lower_image word ≡ codes "post") ⊎ (map lower_image word ≡ codes "host:")
+
+-- `arguments` give a client a name, or tell what it is: `setname` with one word after it, or `setinfo`
+-- with two, in any case
+abbrev pub IsNaming : List (List ℕ) → Type 0
+IsNaming [] = ⊥
+IsNaming (word ∷ words) = ((map lower_image word ≡ codes "setname") × (length words ≡ 1))
+    ⊎ ((map lower_image word ≡ codes "setinfo") × (length words ≡ 2))
+
+-- `arguments` ask for the protocol that is spoken: they are none, or `2`
+abbrev pub IsSpoken : List (List ℕ) → Type 0
+IsSpoken arguments = (arguments ≡ []) ⊎ (arguments ≡ codes "2" ∷ [])
 
 -- `command` is the verb `verb` with the arguments `arguments`
 abbrev pub HasParts : Verb → List (List ℕ) → Command → Type 0
@@ -64,10 +86,20 @@ HasParts verb arguments (CountValues keys) =
 HasParts verb arguments Reply = (verb ≡ Ping) × (arguments ≡ [])
 HasParts verb arguments (Echo text) =
     ((verb ≡ Ping) ⊎ (verb ≡ verbs.Echo)) × (arguments ≡ text.now ∷ [])
+HasParts verb arguments Choose = (verb ≡ Select) × (arguments ≡ codes "0" ∷ [])
+HasParts verb arguments Name = (verb ≡ Client) × IsNaming arguments
+HasParts verb arguments Greet = (verb ≡ Hello) × IsSpoken arguments
 HasParts verb arguments Leave = verb ≡ Quit
 
--- why `verb` with the arguments `arguments` is not a command: it does not take their number
+-- why `verb` with the arguments `arguments` is not a command: it does not take their number, or what
+-- they ask for is not there
 abbrev pub IsPartsFault : Verb → List (List ℕ) → Rejection → Type 0
+IsPartsFault verb arguments NoDatabase =
+    (verb ≡ Select) × (length arguments ≡ 1) × (arguments ≢ codes "0" ∷ [])
+IsPartsFault verb arguments UnknownSubcommand =
+    (verb ≡ Client) × (0 < length arguments) × ¬ (IsNaming arguments)
+IsPartsFault verb arguments NoProtocol =
+    (verb ≡ Hello) × (length arguments ≡ 1) × (arguments ≢ codes "2" ∷ [])
 IsPartsFault verb arguments fault =
     (fault ≡ WrongArguments verb) × ¬ (IsCount verb (length arguments))
 
@@ -110,6 +142,15 @@ value_reply (Some value) = (codes "$" ++ decimal (length value)) ∷ value ∷ [
 abbrev pub count_reply : ℕ → List (List ℕ)
 count_reply count = (codes ":" ++ decimal count) ∷ []
 
+-- the reply to one who asks for the protocol: what the server says of itself, as words and numbers
+abbrev pub server_reply : List ℕ
+server_reply = flat_map (λ line. line ++ 13 ∷ 10 ∷ []) (codes "*14" ∷ codes "$6" ∷ codes "server"
+    ∷ codes "$12" ∷ codes "example_resp" ∷ codes "$7" ∷ codes "version" ∷ codes "$5"
+    ∷ codes "1.0.0" ∷ codes "$5" ∷ codes "proto" ∷ codes ":2" ∷ codes "$2" ∷ codes "id"
+    ∷ codes ":1" ∷ codes "$4" ∷ codes "mode" ∷ codes "$10" ∷ codes "standalone" ∷ codes "$4"
+    ∷ codes "role" ∷ codes "$6" ∷ codes "master" ∷ codes "$7" ∷ codes "modules" ∷ [])
+    ++ codes "*0"
+
 -- the reply of a store with these contents to a command
 abbrev pub reply : Contents → Command → List (List ℕ)
 reply contents (SetValue key value) = codes "+OK" ∷ []
@@ -118,6 +159,9 @@ reply contents (DeleteValues keys) = count_reply (removed_count contents (byte_l
 reply contents (CountValues keys) = count_reply (value_count contents (byte_lists keys.now))
 reply contents Reply = codes "+PONG" ∷ []
 reply contents (Echo text) = value_reply (Some text.now)
+reply contents Choose = codes "+OK" ∷ []
+reply contents Name = codes "+OK" ∷ []
+reply contents Greet = server_reply ∷ []
 reply contents Leave = codes "+OK" ∷ []
 
 -- what is to be said in reply to a command, of a store with these contents
@@ -130,6 +174,9 @@ Tells contents (CountValues keys) told =
     told ≡ said.Count (value_count contents (byte_lists keys.now))
 Tells contents Reply told = told ≡ said.Pong
 Tells contents (Echo text) told = told ≡ said.Text
+Tells contents Choose told = told ≡ said.Done
+Tells contents Name told = told ≡ said.Done
+Tells contents Greet told = told ≡ said.Server
 Tells contents Leave told = told ≡ said.Done
 
 -- the contents of a store after a command
@@ -144,6 +191,9 @@ error_line UnknownCommand = codes "-ERR unknown command"
 error_line Foreign = codes "-ERR Protocol error: a request of HTTP"
 error_line (WrongArguments verb) =
     codes "-ERR wrong number of arguments for '" ++ (name_of verb ++ codes "' command")
+error_line NoDatabase = codes "-ERR DB index is out of range"
+error_line UnknownSubcommand = codes "-ERR unknown subcommand"
+error_line NoProtocol = codes "-NOPROTO unsupported protocol version"
 error_line BadCount = codes "-ERR Protocol error: invalid multibulk length"
 error_line BadLength = codes "-ERR Protocol error: invalid bulk length"
 error_line NoLength = codes "-ERR Protocol error: expected '$'"

@@ -4,15 +4,18 @@ use Rattle.std.specs.declared.result.Result.{Result}
 use Rattle.ascii_lines.specs.declared.serving.Next.{Next}
 use Rattle.ascii_lines.specs.declared.serving.Next.TheVariants as next
 use Rattle.example_resp.specs.Commands.{ReadsCommand, after, count_reply, error_line, reply}
-use Rattle.example_resp.specs.Commands.{value_reply}
+use Rattle.example_resp.specs.Commands.{server_reply, value_reply}
 use Rattle.example_resp.specs.Store.{Contents, contents_of, byte_lists}
-use Rattle.example_resp.specs.declared.commands.Rejection.TheVariants.{UnknownCommand, WrongArguments}
+use Rattle.example_resp.specs.declared.commands.Rejection.TheVariants.{NoDatabase, NoProtocol}
+use Rattle.example_resp.specs.declared.commands.Rejection.TheVariants.{UnknownCommand}
+use Rattle.example_resp.specs.declared.commands.Rejection.TheVariants.{UnknownSubcommand}
+use Rattle.example_resp.specs.declared.commands.Rejection.TheVariants.{WrongArguments}
 use Rattle.example_resp.specs.declared.commands.Command.{Command}
 use Rattle.example_resp.specs.declared.commands.Rejection.{Rejection}
 use Rattle.example_resp.specs.declared.commands.Command.TheVariants.{Leave}
 use Rattle.example_resp.specs.declared.replies.Reply.{Reply}
 use Rattle.example_resp.specs.declared.replies.Reply.TheVariants.{Count, Done, Fault, Pong, Silence}
-use Rattle.example_resp.specs.declared.replies.Reply.TheVariants.{Text, Value}
+use Rattle.example_resp.specs.declared.replies.Reply.TheVariants.{Server, Text, Value}
 use Rattle.example_resp.specs.declared.session.Plan.{Plan}
 use Rattle.example_resp.specs.declared.session.Session.{Session}
 use Rattle.example_resp.specs.declared.session.Stage.{Stage}
@@ -52,6 +55,7 @@ reply_lines held words Pong = codes "+PONG" ∷ []
 reply_lines held words (Count number) = count_reply number
 reply_lines held words Value = value_reply (value_at held (slice_get words 1))
 reply_lines held words Text = value_reply (slice_get words 1)
+reply_lines held words Server = server_reply ∷ []
 reply_lines held words (Fault rejection) = error_line rejection ∷ []
 
 -- the answer that is planned, and leaves `session`
@@ -86,6 +90,9 @@ pub record Awaits (held : Contents) (words : List (List ℕ)) (stage : Stage) (a
 abbrev pub asked_after : Rejection → Next
 asked_after UnknownCommand = next.Line
 asked_after (WrongArguments verb) = next.Line
+asked_after NoDatabase = next.Line
+asked_after UnknownSubcommand = next.Line
+asked_after NoProtocol = next.Line
 asked_after other = next.Close
 
 -- the answer is the line of the rejection, and asks for what comes after it; it leaves the contents

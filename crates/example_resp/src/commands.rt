@@ -1,6 +1,6 @@
 //! The commands of a store, and the words that say them.
 
-ghost use Rattle.std.specs.Prelude.{◌↔◌, IsTrue, MatchOption, MatchResult};
+ghost use Rattle.std.specs.Prelude.{◌↔◌, ◌∷◌, [], IsTrue, MatchOption, MatchResult};
 ghost use Rattle.example_resp.specs.Commands.{HasParts, IsForeign, IsNameOf, IsPartsFault};
 ghost use Rattle.example_resp.specs.Commands.{ReadsCommand};
 ghost use Rattle.example_resp.specs.Store.{byte_lists};
@@ -23,6 +23,12 @@ pub enum Verb {
     Ping,
     /// Asks for bytes.
     Echo,
+    /// Chooses a database.
+    Select,
+    /// Names the client.
+    Client,
+    /// Asks for the protocol.
+    Hello,
     /// Ends the session.
     Quit,
 }
@@ -42,6 +48,12 @@ pub enum Command<'a> {
     Reply,
     /// Asks for the bytes.
     Echo { text: &'a [u8] },
+    /// Chooses the one database.
+    Choose,
+    /// Names the client, which changes nothing.
+    Name,
+    /// Asks for the protocol.
+    Greet,
     /// Ends the session.
     Leave,
 }
@@ -55,6 +67,12 @@ pub enum Rejection {
     Foreign,
     /// The verb takes another number of arguments.
     WrongArguments(Verb),
+    /// There is no database of this number.
+    NoDatabase,
+    /// The client is asked for something other than its name.
+    UnknownSubcommand,
+    /// The protocol is not spoken here.
+    NoProtocol,
     /// The number of words of an array is not a number, or is too large.
     BadCount,
     /// The length of a word is not a number, or is too large.
@@ -132,6 +150,12 @@ fn read_verb(name: &[u8]) -> Option<Verb>
         Some(Verb::Ping)
     } else if eq_ignore_case(name, b"ECHO") {
         Some(Verb::Echo)
+    } else if eq_ignore_case(name, b"SELECT") {
+        Some(Verb::Select)
+    } else if eq_ignore_case(name, b"CLIENT") {
+        Some(Verb::Client)
+    } else if eq_ignore_case(name, b"HELLO") {
+        Some(Verb::Hello)
     } else if eq_ignore_case(name, b"QUIT") {
         Some(Verb::Quit)
     } else {
@@ -158,7 +182,49 @@ fn command_of<'a>(verb: Verb, arguments: &'a [Vec<u8>]) -> Result<Command<'a>, R
         (Verb::Ping | Verb::Echo, [text]) => Ok(Command::Echo {
             text: text.as_slice(),
         }),
+        (Verb::Select, [index]) => choose(index.as_slice()),
+        (Verb::Client, [subcommand, others @ ..]) => name_client(subcommand.as_slice(), others),
+        (Verb::Hello, []) => Ok(Command::Greet),
+        (Verb::Hello, [version]) => greet(version.as_slice()),
         (Verb::Quit, _) => Ok(Command::Leave),
         _ => Err(Rejection::WrongArguments(verb)),
+    }
+}
+
+/// Returns the command that chooses a database, of which there is one.
+fn choose<'a>(index: &[u8]) -> Result<Command<'a>, Rejection>
+    ensures { MatchResult result (HasParts Verb.Select (index.now ∷ []))
+        (IsPartsFault Verb.Select (index.now ∷ [])) }
+{
+    if index == b"0".as_slice() {
+        Ok(Command::Choose)
+    } else {
+        Err(Rejection::NoDatabase)
+    }
+}
+
+/// Returns the command that names a client.
+fn name_client<'a>(subcommand: &[u8], others: &[Vec<u8>]) -> Result<Command<'a>, Rejection>
+    ensures { MatchResult result (HasParts Verb.Client (subcommand.now ∷ byte_lists others.now))
+        (IsPartsFault Verb.Client (subcommand.now ∷ byte_lists others.now)) }
+{
+    let is_name = eq_ignore_case(subcommand, b"SETNAME") && others.len() == 1;
+    let is_library = eq_ignore_case(subcommand, b"SETINFO") && others.len() == 2;
+    if is_name || is_library {
+        Ok(Command::Name)
+    } else {
+        Err(Rejection::UnknownSubcommand)
+    }
+}
+
+/// Returns the command that asks for a protocol, of which there is one.
+fn greet<'a>(version: &[u8]) -> Result<Command<'a>, Rejection>
+    ensures { MatchResult result (HasParts Verb.Hello (version.now ∷ []))
+        (IsPartsFault Verb.Hello (version.now ∷ [])) }
+{
+    if version == b"2".as_slice() {
+        Ok(Command::Greet)
+    } else {
+        Err(Rejection::NoProtocol)
     }
 }

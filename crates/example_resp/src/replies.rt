@@ -1,10 +1,11 @@
 //! The replies of a store to commands.
 
 ghost use Rattle.std.specs.Option.{option_copied};
-ghost use Rattle.std.specs.Prelude.{◌≡◌, IfOk, List, OnOk, map, ℕ};
+ghost use Rattle.std.specs.Prelude.{◌≡◌, ◌∷◌, [], IfOk, List, OnOk, map, ℕ};
 ghost use Rattle.ascii.specs.View.{text_of};
 ghost use Rattle.ascii_lines.specs.Replies.{Says, line_reply};
-ghost use Rattle.example_resp.specs.Commands.{Tells, after, error_line, value_reply};
+ghost use Rattle.example_resp.specs.Commands.{Tells, after, error_line, server_reply};
+ghost use Rattle.example_resp.specs.Commands.{value_reply};
 ghost use Rattle.example_resp.specs.declared.commands.Rejection as Rejection;
 ghost use Rattle.example_resp.specs.Store.{contents_of};
 
@@ -13,6 +14,10 @@ use crate::store::Store;
 use ascii::AsciiStr;
 use ascii_lines::{Replies, Sink};
 use std::alloc::{AllocError, Allocator, Global};
+
+/// What the server says of itself: pairs of a word and a word or a number.
+const SERVER: &[u8] =
+    b"*14\r\n$6\r\nserver\r\n$12\r\nexample_resp\r\n$7\r\nversion\r\n$5\r\n1.0.0\r\n$5\r\nproto\r\n:2\r\n$2\r\nid\r\n:1\r\n$4\r\nmode\r\n$10\r\nstandalone\r\n$4\r\nrole\r\n$6\r\nmaster\r\n$7\r\nmodules\r\n*0";
 
 /// What is replied to a request.
 #[derive(Clone, Copy, PartialEq, Eq, Debug)]
@@ -29,6 +34,8 @@ pub enum Reply {
     Value,
     /// The second word of the request.
     Text,
+    /// What the server says of itself.
+    Server,
     /// Why the request was rejected.
     Fault(Rejection),
 }
@@ -49,7 +56,8 @@ pub fn follow(store: &mut Store, alloc: Global, command: Command<'_>) -> Result<
         Command::CountValues { keys } => Ok(Reply::Count(store.count(keys))),
         Command::Reply => Ok(Reply::Pong),
         Command::Echo { .. } => Ok(Reply::Text),
-        Command::Leave => Ok(Reply::Done),
+        Command::Choose | Command::Name | Command::Leave => Ok(Reply::Done),
+        Command::Greet => Ok(Reply::Server),
     }
 }
 
@@ -61,6 +69,9 @@ pub fn line_of(rejection: Rejection) -> AsciiStr<'static>
         Rejection::UnknownCommand => AsciiStr::literal("-ERR unknown command"),
         Rejection::Foreign => AsciiStr::literal("-ERR Protocol error: a request of HTTP"),
         Rejection::WrongArguments(verb) => wrong_arguments(verb),
+        Rejection::NoDatabase => AsciiStr::literal("-ERR DB index is out of range"),
+        Rejection::UnknownSubcommand => AsciiStr::literal("-ERR unknown subcommand"),
+        Rejection::NoProtocol => AsciiStr::literal("-NOPROTO unsupported protocol version"),
         Rejection::BadCount => {
             AsciiStr::literal("-ERR Protocol error: invalid multibulk length")
         }
@@ -86,6 +97,9 @@ fn wrong_arguments(verb: Verb) -> AsciiStr<'static>
         Verb::Exists => "-ERR wrong number of arguments for 'exists' command",
         Verb::Ping => "-ERR wrong number of arguments for 'ping' command",
         Verb::Echo => "-ERR wrong number of arguments for 'echo' command",
+        Verb::Select => "-ERR wrong number of arguments for 'select' command",
+        Verb::Client => "-ERR wrong number of arguments for 'client' command",
+        Verb::Hello => "-ERR wrong number of arguments for 'hello' command",
         Verb::Quit => "-ERR wrong number of arguments for 'quit' command",
     })
 }
@@ -102,4 +116,11 @@ pub fn say_value<K: Sink, A: Allocator>(value: Option<&[u8]>, replies: &mut Repl
         }
         None => replies.fixed_line(AsciiStr::literal("$-1")),
     }
+}
+
+/// Writes what the server says of itself. Does not allocate.
+pub fn say_server<K: Sink, A: Allocator>(replies: &mut Replies<K, A>)
+    ensures { Says replies.old (line_reply server_reply ∷ []) replies.new }
+{
+    replies.bytes(SERVER);
 }

@@ -9,7 +9,7 @@ ghost use Rattle.example_resp.specs.Session.{asked_after, next_after, reply_line
 ghost use Rattle.example_resp.specs.Requests.{IsLength, IsShortest};
 
 use crate::commands::{Command, Rejection, read_command};
-use crate::replies::{Reply, follow, line_of, say_value};
+use crate::replies::{Reply, follow, line_of, say_server, say_value};
 use crate::store::Store;
 use crate::words::split_words;
 use ascii::AsciiStr;
@@ -256,6 +256,7 @@ impl Session {
             Reply::Count(count) => replies.number_line(AsciiStr::literal(":"), count),
             Reply::Value => say_value(self.second_value(), replies),
             Reply::Text => say_value(self.second_word(), replies),
+            Reply::Server => say_server(replies),
             Reply::Fault(rejection) => replies.text(line_of(rejection)),
         }
     }
@@ -317,6 +318,7 @@ fn rejected(rejection: Rejection) -> Plan
 {
     let next = match rejection {
         Rejection::UnknownCommand | Rejection::WrongArguments(_) => Next::Line,
+        Rejection::NoDatabase | Rejection::UnknownSubcommand | Rejection::NoProtocol => Next::Line,
         _ => Next::Close,
     };
     Plan {
