@@ -1,8 +1,8 @@
 //! Writes PERFORMANCE.md, performance.svg and sizes.svg out of what was measured.
 //! usage: report FOLDER PAGES REASONS
 //!
-//! FOLDER has facts, tasks.tsv, calls.tsv, finds.tsv, programs.tsv and servers.tsv; REASONS is a file that says why
-//! rows are slower.
+//! FOLDER has facts, tasks.tsv, calls.tsv, finds.tsv, programs.tsv and servers.tsv, and tasks_avx2.tsv and finds_avx2.tsv, for
+//! which the crate `memchr` chose AVX2; REASONS is a file that says why rows are slower.
 
 use std::collections::HashMap;
 use std::fmt::Write;
@@ -161,16 +161,17 @@ impl Calls {
 }
 
 /// A table of the everyday tasks: for each the mean length of its texts, our time for one, and how many times as fast
-/// as each peer ours is.
-fn tasks(calls: &Calls, rows: &[Vec<String>]) -> String {
+/// as each peer ours is, the last one where the crate `memchr` chose AVX2.
+fn tasks(calls: &Calls, avx2: &Calls, rows: &[Vec<String>]) -> String {
     let mut table = String::from(
-        "| Task | Bytes | Ours | Fastest peer | best Rust | std | `memchr` | Rust crate |\n|---|--:|--:|--:|--:|--:|--:|--:|\n",
+        "| Task | Bytes | Ours | Fastest peer | best Rust | std | `memchr` | Rust crate | best, AVX2 |\n|---|--:|--:|--:|--:|--:|--:|--:|--:|\n",
     );
     for (call, size) in each_once(rows.iter().map(|row| (&row[0], row[1].parse().expect("a size")))) {
         let ours = calls.time(call, size, "ours").map(as_time).unwrap_or_default();
         write!(table, "| {call} | {size} | {ours} |").unwrap();
         write!(table, " {} |", calls.best(call, size).map(Ratio::with_spread).unwrap_or_default()).unwrap();
-        for ratio in ["best", "std", "memchr", "crate"].map(|peer| calls.ratio(call, size, peer)) {
+        let ratios = ["best", "std", "memchr", "crate"].map(|peer| calls.ratio(call, size, peer));
+        for ratio in ratios.into_iter().chain([avx2.ratio(call, size, "best")]) {
             write!(table, " {} |", ratio.map(as_ratio).unwrap_or_default()).unwrap();
         }
         table.push('\n');
@@ -191,14 +192,23 @@ fn wrapped(text: &str) -> String {
 }
 
 /// The tasks at which a peer is more than 5 % faster, each with the ratio.
-fn behind(calls: &Calls, rows: &[Vec<String>]) -> String {
+fn tasks_behind(calls: &Calls, rows: &[Vec<String>]) -> String {
     let tasks = each_once(rows.iter().map(|row| (&row[0], row[1].parse().expect("a size"))));
     let found = tasks.into_iter().filter_map(|(call, size)| {
         let ratio = calls.best(call, size)?.median;
         (ratio < 0.95).then(|| format!("{call} ({})", as_ratio(ratio)))
     });
-    let found = found.collect::<Vec<_>>().join(", ");
-    wrapped(&format!("**Where a Rust programmer is faster** by more than 5 %, of the everyday tasks: {found}."))
+    found.collect::<Vec<_>>().join(", ")
+}
+
+/// Where a peer is faster, compiled for the same processor, and where the crate `memchr` chose AVX2.
+fn behind(calls: &Calls, avx2: &Calls, rows: &[Vec<String>]) -> String {
+    wrapped(&format!(
+        "**Where a Rust programmer is faster** by more than 5 %, of the everyday tasks: {}. Where the crate `memchr` chooses \
+         vectors of AVX2 at run time, which no library of this toolchain can: {}.",
+        tasks_behind(calls, rows),
+        tasks_behind(avx2, rows)
+    ))
 }
 
 /// The table of the README: each task and the fastest peer's time divided by ours, three tasks to a row.
@@ -243,12 +253,13 @@ fn as_time(nanoseconds: f64) -> String {
     }
 }
 
-/// A table of the searches by length: our time, and how many times as fast as std and `memchr` ours is.
-fn finds(calls: &Calls) -> String {
+/// A table of the searches by length: our time, and how many times as fast as std and `memchr` ours is, the last one with
+/// AVX2.
+fn finds(calls: &Calls, avx2: &Calls) -> String {
     calls.table(|call, size| {
-        let ratio = |peer| calls.ratio(call, size, peer).map(as_ratio);
+        let ratio = |calls: &Calls, peer| calls.ratio(call, size, peer).map(as_ratio);
         let time = calls.time(call, size, "ours").map(as_time)?;
-        Some(format!("{time} ({}, {})", ratio("std")?, ratio("memchr")?))
+        Some(format!("{time} ({}, {}, {})", ratio(calls, "std")?, ratio(calls, "memchr")?, ratio(avx2, "memchr")?))
     })
 }
 
@@ -501,7 +512,8 @@ bytes, tables, exact sizes, and one search over the whole text. std, `memchr` an
 side. These are the same code as ours, except where they do more: they cut each header at its colon before they compare
 its name or test its characters, cut a table into fields before they read the numbers, trim both ends of a setting's
 name and value, and find the lines with a text, also in any case, line by line. A slug is pushed character by character
-by the Rust crate, which has no other call for it. The last two rows are the worst cases of a search for a text.
+by the Rust crate, which has no other call for it. The last two rows are the worst cases of a search for a text. The
+last column is best Rust where the crate `memchr` chooses AVX2 at run time, measured after the others.
 
 The code is for x86-64-v2. If each machine that runs it has AVX2, give `--cpu x86-64-v3` to `rt run`, to `rt lib` of a
 static library, to `bin/install` or to `bin/bench`: nothing is proved again below. A program checks its processor as it
@@ -517,8 +529,8 @@ Each call against the fastest of its peers: the Rust crate, std, and a bare loop
 {reasons}
 ## Searches by length
 
-The position of a needle of 1, 4 or 16 characters at the end of a text: our time, and in parentheses the time of std
-and that of the Rust crate `memchr`, each divided by ours.
+The position of a needle of 1, 4 or 16 characters at the end of a text: our time, and in parentheses the time of std,
+of the Rust crate `memchr` for {cpu}, and of `memchr` with AVX2, each divided by ours.
 
 {finds}
 ## Compared with the Rust crate
@@ -592,7 +604,8 @@ fn main() {
     let calls = Calls::read(&rows(format!("{folder}/calls.tsv")));
     let task_rows = rows(format!("{folder}/tasks.tsv"));
     let of_tasks = Calls::read(&task_rows);
-    let tasks = (&tasks(&of_tasks, &task_rows)[..], &behind(&of_tasks, &task_rows)[..]);
+    let avx2 = Calls::read(&rows(format!("{folder}/tasks_avx2.tsv")));
+    let tasks = (&tasks(&of_tasks, &avx2, &task_rows)[..], &behind(&of_tasks, &avx2, &task_rows)[..]);
     let (sized, timed): (Vec<_>, Vec<_>) =
         rows(format!("{folder}/programs.tsv")).into_iter().partition(|row| row[0] == "size");
     let programs = programs(&timed);
@@ -603,7 +616,8 @@ fn main() {
     let reasons =
         std::fs::read_to_string(reasons).unwrap_or_else(|error| panic!("{reasons}: {error}"));
     let servers = servers(&rows(format!("{folder}/servers.tsv")));
-    let finds = finds(&Calls::read(&rows(format!("{folder}/finds.tsv"))));
+    let [found, by_avx2] = ["finds", "finds_avx2"].map(|name| Calls::read(&rows(format!("{folder}/{name}.tsv"))));
+    let finds = finds(&found, &by_avx2);
     let page = page(&facts, &calls, &finds, tasks, &programs, &servers, &sizes(&sized), &reasons);
     write("PERFORMANCE.md", page);
     if pages == "docs" {

@@ -285,7 +285,10 @@ pub fn bench_address(source: &[u8]) -> usize {
     let Ok(text) = bytes::as_ascii_str(source) else {
         return 0;
     };
-    let Some((scheme, rest)) = text.split_once_str(AsciiStr::literal("://")) else {
+    let Some((scheme, rest)) = text.split_once(AsciiChar::Colon) else {
+        return 0;
+    };
+    let Some(rest) = rest.strip_prefix(AsciiStr::literal("//")) else {
         return 0;
     };
     let Some((authority, path)) = rest.split_once(AsciiChar::Slash) else {
