@@ -67,7 +67,7 @@ pub enum Rejection {
     Foreign,
     /// The verb takes another number of arguments.
     WrongArguments(Verb),
-    /// There is no database of this number.
+    /// No database has this number.
     NoDatabase,
     /// The client is asked for something other than its name.
     UnknownSubcommand,
