@@ -291,6 +291,8 @@ EXAMPLES = [
     Call("head of no request", ["head"], b"GET  / HTTP/1.1\r\n\r\n", 0, b"not a request line: GET  / HTTP/1.1\n"),
     Call("head of two digits after the point", ["head"], HEAD.replace(b"1.1", b"1.01") % b"", 0,
          b"not a request line: GET /a?b HTTP/1.01\n"),
+    Call("head of a media type without a subtype", ["head"], HEAD.replace(b"plain", b"") % b"", 0,
+         b"GET /a?b 1.1\nhost a.example\ncontent type, 1:6: expected a token\n"),
     Call("host", ["host"], b"Accept: */*\nHOST:  a.example\nx\303\244: 1\n", 0, b"a.example\nthe byte at index 1 is not ASCII\n"),
     Call("ini", ["ini"], SETTINGS, 0, b"3:8: [net] port = 80\n4:9: [net] host = a.example\n6:7: [disk] path = \n"),
     Call("ini of a line without a sign", ["ini"], b"[net]\n port\n", 0, b"2:2: no '='\n"),
