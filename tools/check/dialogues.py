@@ -475,12 +475,14 @@ LETTER = "Subject: x\r\n\r\n.one\r\ntwo\r\n"
 SWAKS = ["swaks", "--server", "127.0.0.1:PORT", "--from", "a@b", "--to", "c@d,e@f", "--data", "@FILE"]
 CURL = ["curl", "-sv", "smtp://127.0.0.1:PORT/client", "--mail-from", "a@b", "--mail-rcpt", "c@d", "-T", "FILE"]
 REDIS = "SET a 1\nGET a\nPING\nSET k \"x y\"\nGET k\nDEL k\nGET k\n"
+SETS = "*3\r\n$3\r\nSET\r\n$1\r\na\r\n$1\r\n1\r\n" * 100
 BENCHMARK = "redis-benchmark -p PORT -n 20000 -c 1 -P 16 -t set,get --csv".split()
 COMMANDS = [
     Command("swaks sends a mail", "example_smtp", SWAKS, LETTER, 0, ["354 send", "250 OK", "221 bye"]),
     Command("swaks sends a mail of 8 bits", "example_smtp", SWAKS, "Subject: x\n\ncaf\u00e9\n", 26, ["554 the message is not ASCII", "221 bye"]),
     Command("curl sends a mail", "example_smtp", CURL, LETTER, 0, ["> EHLO client", "< 354 send", "< 250 OK"]),
     Command("redis-cli", "example_resp", ["redis-cli", "-p", "PORT"], REDIS, 0, ["OK\n1\nPONG\nOK\nx y\n1\n\n"]),
+    Command("redis-cli --pipe", "example_resp", ["redis-cli", "-p", "PORT", "--pipe"], SETS, 0, ["errors: 0, replies: 100\n"]),
     Command("redis-benchmark", "example_resp", BENCHMARK, "", 0, ['"SET"', '"GET"']),
 ]
 
