@@ -165,8 +165,15 @@ impl<K: Sink, A: Allocator> Replies<K, A> {
         self.bytes_part(text.as_bytes());
     }
 
-    /// Writes bytes as they are.
-    fn bytes_part(&mut self, bytes: &[u8])
+    /// Writes bytes as they are, as a part of a reply. If the device has failed, nothing is written.
+    ///
+    ///     let writer = LineWriter::new(alloc, Output::new(Vec::new(alloc)), 64)?;
+    ///     let mut replies = Replies::new(writer, Ending::CrLf);
+    ///     replies.bytes_part(b"a\n\xff");
+    ///     let mut writer = replies.into_writer();
+    ///     writer.flush() // Ok(())
+    ///     writer.into_sink().into_inner() // [97, 10, 255]
+    pub fn bytes_part(&mut self, bytes: &[u8])
         ensures { SaysPart self.old bytes.now self.new }
     {
         let _ = self.writer.write_bytes(bytes);
