@@ -50,9 +50,9 @@ told_lines held new words command.Leave told says tells contents =
 -- words that do not say a command are answered by their rejection
 pub rejected : (held : Contents) (words : List (Vec ℕ Global)) (fault : Rejection) (answer : Answer)
     → ¬ (words ≡ []) → IsCallFault (byte_lists words) fault → Rejects held fault answer
-    → CarriesOut held (byte_lists words) answer
-rejected held [] fault answer some is rejects = absurd (some refl)
-rejected held (word ∷ words) fault answer some is rejects = (Err fault, is, rejects)
+    → answer.state.words ≡ byte_lists words → CarriesOut held (byte_lists words) answer
+rejected held [] fault answer some is rejects kept = absurd (some refl)
+rejected held (word ∷ words) fault answer some is rejects kept = (Err fault, is, (rejects, kept))
 
 -- words that say a command are carried out if it is followed
 pub carried : (held : Contents) (words : List (Vec ℕ Global)) (command : Command) (answer : Answer)

@@ -1,5 +1,5 @@
 -- Words of a line, piece by piece and word by word.
-use Rattle.std.proofs.Common.{◌≡◌, ◌≢◌, ◌<◌, ◌≤◌, ℕ, List, [], ◌∷◌, ◌++◌, ap, arith}
+use Rattle.std.proofs.Common.{◌≢◌, ◌<◌, ◌≤◌, ℕ, List, [], ◌∷◌, ◌++◌, ap, arith}
 use Rattle.std.proofs.Common.{inl, inr, length, length-append, refl, subst}
 use Rattle.std.specs.Prelude.{IfSome, slice_get}
 use Rattle.ascii.specs.Class.{IsWhitespace}

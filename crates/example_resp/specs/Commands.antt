@@ -1,11 +1,12 @@
 -- The commands of a store: the words that say each, its reply, and the store after it.
 use Rattle.std.specs.Map.{update}
 use Rattle.std.specs.Prelude.{◌≡◌, ◌≢◌, ◌⊎◌, ℕ, ◌<◌, List, [], ◌∷◌, ◌++◌, None, Option, Some, codes}
-use Rattle.std.specs.Prelude.{MatchResult, decimal, length, map, ⊤}
+use Rattle.std.specs.Prelude.{All, MatchResult, decimal, length, map, ⊤}
 use Rattle.std.specs.List.{flat_map}
 use Rattle.std.specs.Str.{bytes_eq}
 use Rattle.std.specs.declared.result.Result.{Result}
 use Rattle.ascii.specs.Case.{lower_image}
+use Rattle.ascii.specs.Class.{IsPrintable}
 use Rattle.example_resp.specs.Store.{Contents, removed_count, byte_lists, value_count, without}
 use Rattle.example_resp.specs.declared.commands.Command.{Command}
 use Rattle.example_resp.specs.declared.commands.Command.TheVariants.{SetValue, GetValue}
@@ -14,7 +15,7 @@ use Rattle.example_resp.specs.declared.commands.Command.TheVariants.{Greet, Leav
 use Rattle.example_resp.specs.declared.commands.Command.TheVariants.{Reply}
 use Rattle.example_resp.specs.declared.commands.Rejection.{Rejection}
 use Rattle.example_resp.specs.declared.commands.Rejection.TheVariants.{BadCount, BadEnding, BadInput}
-use Rattle.example_resp.specs.declared.commands.Rejection.TheVariants.{BadLength, BadQuotes, Foreign}
+use Rattle.example_resp.specs.declared.commands.Rejection.TheVariants.{BadLength, BadName, BadQuotes, Foreign}
 use Rattle.example_resp.specs.declared.commands.Rejection.TheVariants.{NoLength, NoMemory}
 use Rattle.example_resp.specs.declared.commands.Rejection.TheVariants.{NoDatabase, NoProtocol}
 use Rattle.example_resp.specs.declared.commands.Rejection.TheVariants.{UnknownCommand}
@@ -117,12 +118,23 @@ abbrev pub IsForeignCall : List (List ℕ) → Type 0
 IsForeignCall words = (name : List ℕ) × (arguments : List (List ℕ)) × (words ≡ name ∷ arguments)
     × IsForeign name
 
--- why `words` do not say a command. `Foreign`: the first is that of a request of HTTP.
--- `UnknownCommand`: it is another word that is not the name of a verb, or there is none. Otherwise
--- the verb has arguments at fault
-abbrev pub IsCallFault : List (List ℕ) → Rejection → Type 0
-IsCallFault words UnknownCommand = ¬ (IsForeignCall words)
+-- `words` begin with a word that is not the name of a verb, nor that of a request of HTTP; or there
+-- are none
+abbrev pub IsUnknown : List (List ℕ) → Type 0
+IsUnknown words = ¬ (IsForeignCall words)
     × ((verb : Verb) (arguments : List (List ℕ)) → ¬ (IsCall words verb arguments))
+
+-- the first of `words` has printable characters only
+abbrev pub HasName : List (List ℕ) → Type 0
+HasName words = (name : List ℕ) × (arguments : List (List ℕ)) × (words ≡ name ∷ arguments)
+    × All IsPrintable name
+
+-- why `words` do not say a command. `Foreign`: the first is that of a request of HTTP.
+-- `UnknownCommand`: it is another word that is not the name of a verb, and is printable. `BadName`:
+-- it is not printable, or there is none. Otherwise the verb has arguments at fault
+abbrev pub IsCallFault : List (List ℕ) → Rejection → Type 0
+IsCallFault words UnknownCommand = IsUnknown words × HasName words
+IsCallFault words BadName = IsUnknown words × ¬ (HasName words)
 IsCallFault words Foreign = IsForeignCall words
 IsCallFault words rejection = (verb : Verb) × (arguments : List (List ℕ))
     × IsCall words verb arguments × IsPartsFault verb arguments rejection
@@ -188,6 +200,7 @@ after contents other = contents
 -- the line that says why a request was rejected
 abbrev pub error_line : Rejection → List ℕ
 error_line UnknownCommand = codes "-ERR unknown command"
+error_line BadName = codes "-ERR unknown command"
 error_line Foreign = codes "-ERR Protocol error: a request of HTTP"
 error_line (WrongArguments verb) =
     codes "-ERR wrong number of arguments for '" ++ (name_of verb ++ codes "' command")
@@ -201,3 +214,13 @@ error_line BadEnding = codes "-ERR the word is longer than its length"
 error_line BadQuotes = codes "-ERR Protocol error: unbalanced quotes in request"
 error_line BadInput = codes "-ERR Protocol error: bad input"
 error_line NoMemory = codes "-OOM out of memory"
+
+-- the line that says that there is no command of this name
+abbrev pub unknown_line : List ℕ → List ℕ
+unknown_line name = codes "-ERR unknown command '" ++ (name ++ codes "'")
+
+-- the line that says why a request was rejected whose first word is this one, if it has any: it
+-- repeats the name of a command that is not known
+abbrev pub fault_line : Rejection → Option (List ℕ) → List ℕ
+fault_line UnknownCommand (Some name) = unknown_line name
+fault_line rejection name = error_line rejection

@@ -3,10 +3,10 @@ use Rattle.std.specs.Prelude.{◌≡◌, ℕ, List, [], ◌∷◌, MatchResult, 
 use Rattle.std.specs.declared.result.Result.{Result}
 use Rattle.ascii_lines.specs.declared.serving.Next.{Next}
 use Rattle.ascii_lines.specs.declared.serving.Next.TheVariants as next
-use Rattle.example_resp.specs.Commands.{ReadsCommand, after, count_reply, error_line, reply}
+use Rattle.example_resp.specs.Commands.{ReadsCommand, after, count_reply, fault_line, reply}
 use Rattle.example_resp.specs.Commands.{server_reply, value_reply}
 use Rattle.example_resp.specs.Store.{Contents, contents_of, byte_lists}
-use Rattle.example_resp.specs.declared.commands.Rejection.TheVariants.{NoDatabase, NoProtocol}
+use Rattle.example_resp.specs.declared.commands.Rejection.TheVariants.{BadName, NoDatabase, NoProtocol}
 use Rattle.example_resp.specs.declared.commands.Rejection.TheVariants.{UnknownCommand}
 use Rattle.example_resp.specs.declared.commands.Rejection.TheVariants.{UnknownSubcommand}
 use Rattle.example_resp.specs.declared.commands.Rejection.TheVariants.{WrongArguments}
@@ -56,7 +56,7 @@ reply_lines held words (Count number) = count_reply number
 reply_lines held words Value = value_reply (value_at held (slice_get words 1))
 reply_lines held words Text = value_reply (slice_get words 1)
 reply_lines held words Server = server_reply ∷ []
-reply_lines held words (Fault rejection) = error_line rejection ∷ []
+reply_lines held words (Fault rejection) = fault_line rejection (slice_get words 0) ∷ []
 
 -- the answer that is planned, and leaves `session`
 abbrev pub answer_of : Plan → Session → Answer
@@ -89,6 +89,7 @@ pub record Awaits (held : Contents) (words : List (List ℕ)) (stage : Stage) (a
 -- starts
 abbrev pub asked_after : Rejection → Next
 asked_after UnknownCommand = next.Line
+asked_after BadName = next.Line
 asked_after (WrongArguments verb) = next.Line
 asked_after NoDatabase = next.Line
 asked_after UnknownSubcommand = next.Line
@@ -98,7 +99,7 @@ asked_after other = next.Close
 -- the answer is the line of the rejection, and asks for what comes after it; it leaves the contents
 -- `held`
 pub record Rejects (held : Contents) (rejection : Rejection) (answer : Answer) : Type 0 where
-  pub replies : answer.replies ≡ error_line rejection ∷ []
+  pub replies : answer.replies ≡ fault_line rejection (slice_get answer.state.words 0) ∷ []
   pub asks : answer.next ≡ asked_after rejection
   pub idle : IsIdle answer.state
   pub contents : (key : List ℕ) → answer.state.contents key ≡ held key
@@ -122,4 +123,4 @@ abbrev pub CarriesOut : Contents → List (List ℕ) → Answer → Type 0
 CarriesOut held [] answer = Awaits held [] stage.Request next.Line answer
 CarriesOut held words answer = (outcome : Result Command Rejection) × ReadsCommand words outcome
     × MatchResult outcome (λ command. Follows held command answer)
-    (λ rejection. Rejects held rejection answer)
+    (λ rejection. Rejects held rejection answer × (answer.state.words ≡ words))

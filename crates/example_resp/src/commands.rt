@@ -5,7 +5,8 @@ ghost use Rattle.example_resp.specs.Commands.{HasParts, IsForeign, IsNameOf, IsP
 ghost use Rattle.example_resp.specs.Commands.{ReadsCommand};
 ghost use Rattle.example_resp.specs.Store.{byte_lists};
 
-use ascii::kernels::eq_ignore_case;
+use ascii::classes::Printable;
+use ascii::kernels::{eq_ignore_case, first_not};
 use std::alloc::{AllocError, AllocFailed};
 
 /// What a client may ask for.
@@ -61,8 +62,10 @@ pub enum Command<'a> {
 /// Why a request was rejected.
 #[derive(Clone, Copy, PartialEq, Eq, Debug)]
 pub enum Rejection {
-    /// The first word is not the name of a verb, or there are no words.
+    /// The first word is printable, and not the name of a verb.
     UnknownCommand,
+    /// The first word has a byte that is not printable, or there are no words.
+    BadName,
     /// The first word is that of a request of HTTP.
     Foreign,
     /// The verb takes another number of arguments.
@@ -116,13 +119,14 @@ pub fn read_command<'a>(words: &'a [Vec<u8>]) -> Result<Command<'a>, Rejection>
     ensures { ReadsCommand (byte_lists words.now) result }
 {
     let Some((name, arguments)) = words.split_first() else {
-        return Err(Rejection::UnknownCommand);
+        return Err(Rejection::BadName);
     };
     let name = name.as_slice();
     match read_verb(name) {
         Some(verb) => command_of(verb, arguments),
         None if is_foreign(name) => Err(Rejection::Foreign),
-        None => Err(Rejection::UnknownCommand),
+        None if first_not::<Printable>(name).is_none() => Err(Rejection::UnknownCommand),
+        None => Err(Rejection::BadName),
     }
 }
 

@@ -4,8 +4,8 @@ ghost use Rattle.std.specs.Option.{option_copied};
 ghost use Rattle.std.specs.Prelude.{◌≡◌, ◌∷◌, [], IfOk, List, OnOk, map, ℕ};
 ghost use Rattle.ascii.specs.View.{text_of};
 ghost use Rattle.ascii_lines.specs.Replies.{Says, line_reply};
-ghost use Rattle.example_resp.specs.Commands.{Tells, after, error_line, server_reply};
-ghost use Rattle.example_resp.specs.Commands.{value_reply};
+ghost use Rattle.example_resp.specs.Commands.{Tells, after, error_line, fault_line, server_reply};
+ghost use Rattle.example_resp.specs.Commands.{unknown_line, value_reply};
 ghost use Rattle.example_resp.specs.declared.commands.Rejection as Rejection;
 ghost use Rattle.example_resp.specs.Store.{contents_of};
 
@@ -66,7 +66,9 @@ pub fn line_of(rejection: Rejection) -> AsciiStr<'static>
     ensures { text_of result ≡ error_line rejection }
 {
     match rejection {
-        Rejection::UnknownCommand => AsciiStr::literal("-ERR unknown command"),
+        Rejection::UnknownCommand | Rejection::BadName => {
+            AsciiStr::literal("-ERR unknown command")
+        }
         Rejection::Foreign => AsciiStr::literal("-ERR Protocol error: a request of HTTP"),
         Rejection::WrongArguments(verb) => wrong_arguments(verb),
         Rejection::NoDatabase => AsciiStr::literal("-ERR DB index is out of range"),
@@ -123,4 +125,29 @@ pub fn say_server<K: Sink, A: Allocator>(replies: &mut Replies<K, A>)
     ensures { Says replies.old (line_reply server_reply ∷ []) replies.new }
 {
     replies.bytes(SERVER);
+}
+
+/// Writes the line that says why a request was rejected, with the name of a command that is not known: the first word of
+/// the request. Does not allocate.
+pub fn say_fault<K: Sink, A: Allocator>(
+    rejection: Rejection,
+    name: Option<&[u8]>,
+    replies: &mut Replies<K, A>,
+)
+    ensures { Says replies.old (line_reply (fault_line rejection (option_copied name.entry)) ∷ [])
+        replies.new }
+{
+    match (rejection, name) {
+        (Rejection::UnknownCommand, Some(name)) => say_unknown(name, replies),
+        _ => replies.text(line_of(rejection)),
+    }
+}
+
+/// Writes that there is no command of this name. Does not allocate.
+fn say_unknown<K: Sink, A: Allocator>(name: &[u8], replies: &mut Replies<K, A>)
+    ensures { Says replies.old (line_reply (unknown_line name.now) ∷ []) replies.new }
+{
+    replies.part(AsciiStr::literal("-ERR unknown command '"));
+    replies.bytes_part(name);
+    replies.text(AsciiStr::literal("'"));
 }

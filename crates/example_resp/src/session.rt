@@ -9,7 +9,7 @@ ghost use Rattle.example_resp.specs.Session.{asked_after, next_after, reply_line
 ghost use Rattle.example_resp.specs.Requests.{IsLength, IsShortest};
 
 use crate::commands::{Command, Rejection, read_command};
-use crate::replies::{Reply, follow, line_of, say_server, say_value};
+use crate::replies::{Reply, follow, line_of, say_fault, say_server, say_value};
 use crate::store::Store;
 use crate::words::split_words;
 use ascii::AsciiStr;
@@ -223,11 +223,11 @@ impl Session {
         }
     }
 
-    /// Returns the second word of the request.
-    fn second_word(&self) -> Option<&[u8]>
-        ensures { option_copied result ≡ slice_get (state_of self.now).words 1 }
+    /// Returns the word of the request at an index, or `None` if it has fewer.
+    fn word(&self, index: usize) -> Option<&[u8]>
+        ensures { option_copied result ≡ slice_get (state_of self.now).words index }
     {
-        match self.words.get(1) {
+        match self.words.get(index) {
             Some(word) => Some(word.as_slice()),
             None => None,
         }
@@ -238,7 +238,7 @@ impl Session {
         ensures { option_copied result
             ≡ value_at (state_of self.now).contents (slice_get (state_of self.now).words 1) }
     {
-        match self.second_word() {
+        match self.word(1) {
             Some(key) => self.store.get(key),
             None => None,
         }
@@ -255,9 +255,9 @@ impl Session {
             Reply::Pong => replies.fixed_line(AsciiStr::literal("+PONG")),
             Reply::Count(count) => replies.number_line(AsciiStr::literal(":"), count),
             Reply::Value => say_value(self.second_value(), replies),
-            Reply::Text => say_value(self.second_word(), replies),
+            Reply::Text => say_value(self.word(1), replies),
             Reply::Server => say_server(replies),
-            Reply::Fault(rejection) => replies.text(line_of(rejection)),
+            Reply::Fault(rejection) => say_fault(rejection, self.word(0), replies),
         }
     }
 }
@@ -317,7 +317,8 @@ fn rejected(rejection: Rejection) -> Plan
     ensures request { IsRequest result.next }
 {
     let next = match rejection {
-        Rejection::UnknownCommand | Rejection::WrongArguments(_) => Next::Line,
+        Rejection::UnknownCommand | Rejection::BadName => Next::Line,
+        Rejection::WrongArguments(_) => Next::Line,
         Rejection::NoDatabase | Rejection::UnknownSubcommand | Rejection::NoProtocol => Next::Line,
         _ => Next::Close,
     };

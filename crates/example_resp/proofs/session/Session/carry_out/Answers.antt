@@ -43,4 +43,4 @@ returns-in-Err-clause-answers c =
     (λ none. false≢true (sym c.if-is_empty.false ∙ (c.is_empty.ensures
     ∙ ap (λ (n : ℕ). n == 0)
     (let zero : old.words.len ≡ 0 = omega (arith, ap length none, old.words.ok.0) in zero)))) says
-    (record { replies = refl; asks = refl; idle = refl; contents = λ key. refl }))
+    (record { replies = refl; asks = refl; idle = refl; contents = λ key. refl }) refl)
