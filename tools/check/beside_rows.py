@@ -67,7 +67,7 @@ SMTP = [
     Row("PUT first", b"PUT / HTTP/1.1\r\n", "220 421", "220 500", "a request of HTTP is left with a code for that"),
     Row("CONNECT first", b"CONNECT / HTTP/1.1\r\n", "220 421", "220 221", "a request of HTTP is left with a code for that"),
     Row("HEAD first", b"HEAD / HTTP/1.1\r\n", "220 421", "220 500", "a request of HTTP is left with a code for that"),
-    Row("a header line first", b"Host: a\r\n" + QUIT, "220 500 221", "220 221", "a header line is a command that is not known"),
+    Row("a header line first", b"Host: a\r\n" + QUIT, "220 421", "220 221", "a header is left with a code for that"),
     Row("a header line", command(b"Subject: x"),
         "220 250 500 221", "220 250 221", "a header line is a command that is not known"),
     Row("MAIL before HELO", MAIL + QUIT, "220 503 221", "220 250 221", "a client introduces itself first (RFC 5321, 4.1.4)"),

@@ -39,7 +39,7 @@ class Dialogue(NamedTuple):
 
 BEGUN = (b"HELO c\r\nMAIL FROM:<a@b>\r\nRCPT TO:<c@d>\r\nDATA\r\n", b"250 OK\r\n" * 3 + b"354 send the lines\r\n")
 MAIL = BEGUN[0] + b"Subject: x\r\n\r\n..dot\r\n.\r\nQUIT\r\n"
-DATED = b"Received: by localhost; NOW\r\n"
+DATED = b"Received: from c by localhost; NOW\r\n"
 ENVELOPE = b"Return-Path: <a@b>\r\nDelivered-To: c@d\r\n" + DATED
 MAILED = BEGUN[1] + b"250 OK\r\n221 bye\r\n"
 HELLO = (b"", b"220 ready\r\n")
@@ -134,7 +134,9 @@ DIALOGUES = [
          (b"VRFY c \r\nRSET \r\nNOOP\t\r\nQUIT \r\n", NO_VRFY + OK * 2 + b"221 bye\r\n")),
     *[mail(f"a client that sends {verb}", (verb.encode() + b" / HTTP/1.1\r\nNOOP\r\n", b"421 closing\r\n"))
       for verb in ("GET", "POST", "PUT", "HEAD", "CONNECT")],
-    mail("a request after the introduction", (b"HELO c\r\nGET / HTTP/1.1\r\n", OK + b"500 unknown command\r\n")),
+    *[mail(f"a client that begins with {line}", (line + b"\r\nNOOP\r\n", b"421 closing\r\n")) for line in (b"Host: a", b"x:", b"A.-~:b c")],
+    *[mail(f"a client that begins with {line}", (line + b"\r\nNOOP\r\n", b"500 unknown command\r\n" + OK)) for line in (b":", b"a b:", b"a\t:", b"x\x7f:")],
+    mail("a request after the introduction", (b"HELO c\r\nGET / HTTP/1.1\r\nHost: a\r\n", OK + b"500 unknown command\r\n" * 2)),
     mail("a byte above 127", (b"NOOP\xc4\r\nQUIT\r\n", BAD + b"221 bye\r\n")),
     mail("a byte above 127 in a message", BEGUN, (b"caf\xc3\xa9\r\nline\r\n", b""), (b".\r\nQUIT\r\n", OTHER_BYTES + b"221 bye\r\n")),
     mail("a mail after one that was dropped", BEGUN, (b"\xff\r\n.\r\n" + MAIL, OTHER_BYTES + MAILED)),
@@ -265,9 +267,9 @@ class TalksInPieces(Talks):
 
 def dated(mail):
     """The text of a mail, with NOW in place of its date, if that is one by the form of mails and less than a minute old."""
-    date = re.search(rb"(?<=\r\nReceived: by localhost; )[^\r\n]*(?=\r\n)", mail)
-    age = time.time() - email.utils.parsedate_to_datetime(date[0].decode()).timestamp() if date else 60
-    return mail[:date.start()] + b"NOW" + mail[date.end():] if -2 < age < 60 else mail
+    date = re.search(rb"\r\nReceived: from [^\r\n]+ by localhost; ([^\r\n]*)\r\n", mail)
+    age = time.time() - email.utils.parsedate_to_datetime(date[1].decode()).timestamp() if date else 60
+    return mail[:date.start(1)] + b"NOW" + mail[date.end(1):] if -2 < age < 60 else mail
 
 
 def taken(connection, most):
@@ -318,10 +320,15 @@ class StoresMail(unittest.TestCase):
     BAD_MAIL = BEGUN[0] + b"caf\xe9\r\n.\r\n"
     TWO = BEGUN[0] + b"one\r\n..\r\n\r\n.\r\n" + BAD_MAIL + BEGUN[0] + b"two\n\r\n.\r\n" + BEGUN[0] + b"three\r\n.\r\n"
     MANY = b"HELO c\r\nMAIL FROM:<>\r\nRCPT TO:<\"a b\"@c>\r\nRCPT TO:<Postmaster>\r\nDATA\r\n.\r\n"
+    # A reset keeps the name of the client, as does a message; another introduction has another name.
+    NAMED = b"EHLO [127.0.0.1]\r\nMAIL FROM:<x@y>\r\nRSET\r\n" + (BEGUN[0] + b".\r\n").removeprefix(b"HELO c\r\n") * 2 + b"HELO a b\r\n" \
+        + (BEGUN[0] + b".\r\n").removeprefix(b"HELO c\r\n")
+    FROM_EACH = [ENVELOPE.replace(b"from c", name) for name in [b"from [127.0.0.1]", b"from [127.0.0.1]", b"from a b"]]
     SAID = BEGUN[1] + OK + BEGUN[1] + OTHER_BYTES + BEGUN[1] + b"554 bad message\r\n" + BEGUN[1]
     ROWS = [
         ([], TWO, SAID + OK, [ENVELOPE + b"one\r\n.\r\n\r\n", ENVELOPE + b"three\r\n"]),
         ([], MANY, OK * 4 + b"354 send the lines\r\n" + OK, [b"Return-Path: <>\r\nDelivered-To: \"a b\"@c\r\nDelivered-To: Postmaster\r\n" + DATED]),
+        ([], NAMED, EXTENSIONS + OK * 2 + (BEGUN[1] + OK).removeprefix(OK) * 2 + OK + (BEGUN[1] + OK).removeprefix(OK), FROM_EACH),
         (["tmp"], BEGUN[0] + b"one\r\n.\r\nNOOP\r\n", BEGUN[1] + b"451 not stored\r\n" + OK, []),
         (["new"], BEGUN[0] + b"one\r\n.\r\nNOOP\r\n", BEGUN[1] + b"451 not stored\r\n" + OK, []),
     ]
@@ -347,17 +354,34 @@ class StoresMail(unittest.TestCase):
                 self.assertEqual(list((folder / "tmp").glob("*")), [])
 
 
-class RejectsFolder(unittest.TestCase):
-    """A folder that cannot be used: a line on standard error, status 73, and no greeting."""
+class TakesArguments(unittest.TestCase):
+    """What is not a call of a server, and a call for help: what stands on standard output and on standard error, and the status.
+    A folder that cannot be used is a line on standard error, and no greeting. A write that fails is a status."""
+
+    USAGE = b"usage: %s.*\n.*\nStatus .+\n"
+    ROWS = [
+        ("example_smtp", ["/dev/null"], 73, b"", b"/dev/null: .+\n"),
+        ("example_smtp", ["--help"], 0, USAGE % b"example_smtp", b""),
+        ("example_smtp", ["-v"], 64, b"", USAGE % b"example_smtp"),
+        ("example_smtp", ["a", "b"], 64, b"", USAGE % b"example_smtp"),
+        ("example_resp", ["--help"], 0, USAGE % b"example_resp", b""),
+        ("example_resp", ["a"], 64, b"", USAGE % b"example_resp"),
+    ]
 
     def __str__(self):
-        return "example_smtp: a folder that cannot be used"
+        return "example_smtp and example_resp: their arguments"
 
     def runTest(self):
-        program = TOP / "crates/example_smtp/out/example_smtp"
-        got = subprocess.run([program, "/dev/null"], input=b"", capture_output=True, timeout=WAIT)
-        self.assertEqual((got.returncode, got.stdout), (73, b""))
-        self.assertRegex(got.stderr, b"^/dev/null: .+\n$")
+        for program, words, status, out, error in self.ROWS:
+            got = subprocess.run([TOP / "crates" / program / "out" / program, *words], input=b"", capture_output=True, timeout=WAIT)
+            self.assertEqual(got.returncode, status, words)
+            self.assertRegex(got.stdout, b"\\A" + out + b"\\Z")
+            self.assertRegex(got.stderr, b"\\A" + error + b"\\Z")
+        for program in ("example_smtp", "example_resp"):
+            with open("/dev/full", "wb") as full:
+                command = [TOP / "crates" / program / "out" / program]
+                got = subprocess.run(command, input=b"PING\r\n", stdout=full, stderr=subprocess.PIPE, timeout=WAIT)
+            self.assertEqual(got.returncode, 74, got.stderr)
 
 
 class CountsMail(unittest.TestCase):
@@ -514,7 +538,7 @@ class Runs(unittest.TestCase):
 
 def tests():
     short = [it for it in DIALOGUES if sum(len(sent) for sent, _ in it.steps) <= TalksInPieces.LONGEST]
-    with_folders = [SendsMail(), CountsMail(), StoresMail(), RejectsFolder(), StoresInOrder(),
+    with_folders = [SendsMail(), CountsMail(), StoresMail(), TakesArguments(), StoresInOrder(),
                     SurvivesFailures()]
     others = [beside.BesidePostfix(), beside.BesideRedis()]
     return [*map(Talks, DIALOGUES), *map(TalksInPieces, short), *with_folders, *map(Runs, COMMANDS), *others]

@@ -183,14 +183,14 @@ module _ (old new : State) (envelope : Mail) (line : List ℕ) (outside : Inside
         })
     followed (Introduce domain) says same = carried (Introduce domain) same refl
         (Introduce domain, says, refl) (λ l. cc) (keeps_none old)
-    followed (Extend domain) says same =
-        carried (Extend domain) same refl refl (λ l. cc) (keeps_none old)
+    followed (Extend domain) says same = carried (Extend domain) same refl
+        (Extend domain, says, refl) (λ l. cc) (keeps_none old)
     followed (SetSender address) says same = carried (SetSender address) same refl
-        (SetSender address, says, refl) (λ l. cc) (keeps_none old)
+        (SetSender address, says, here (SetSender address)) (λ l. cc) (keeps_none old)
     followed (AddRecipient address) says same = carried (AddRecipient address) same refl
         (AddRecipient address, says, here (AddRecipient address)) (λ l. cc) (keeps_none old)
-    followed Reset says same = carried Reset same refl (Reset, says, refl) (reset_apart old.stage)
-        (keeps_none old)
+    followed Reset says same = carried Reset same refl (Reset, says, here Reset)
+        (reset_apart old.stage) (keeps_none old)
     followed (Verify mailbox) says same =
         carried (Verify mailbox) same refl outside.1 outside.0 (keeps_none old)
     followed command.Reply says same = carried command.Reply same refl
@@ -274,10 +274,14 @@ module _ (old new : State) (sent : Sent) (envelope : Mail)
 
   -- a message that is dropped
   dropped : (reply : Reply) → part_of (Some reply) ≡ ends → new.stage ≡ Ready
-      → new.draft ≡ no_mail → Keeps old [] new
+      → new.draft ≡ no_mail envelope.client → Keeps old [] new
       → Moves old (Some sent) envelope (Some (codes ".")) (Some reply) new
   dropped reply part stage none stored = quiet old new (Some sent) envelope (Some (codes "."))
       reply part none (λ l. let e : Ready ≡ Lines = sym stage ∙ l in cc) stored
+
+  -- the client is that of the envelope
+  same_client : no_mail old.draft.client ≡ no_mail envelope.client
+  same_client = ap (λ (mail : Mail). no_mail mail.client) inside.1
 
   -- a dot
   ended : (said : Reply) (fault : Option Fault) → old.fault ≡ fault → Ends fault old said new
@@ -285,16 +289,17 @@ module _ (old new : State) (sent : Sent) (envelope : Mail)
   ended said (Some fault) bad (done, same) =
       subst (λ r. Moves old (Some sent) envelope (Some (codes ".")) (Some r) new) (sym done)
       (dropped (reply_of_fault fault) (fault_part fault) (ap (λ (s : State). s.stage) same)
-      (ap (λ (s : State). s.draft) same) (subst (Keeps old []) (sym same) (keeps_none old)))
+      (ap (λ (s : State). s.draft) same ∙ same_client) (subst (Keeps old []) (sym same) (keeps_none old)))
   ended said None whole (stores, same) =
       let stage : new.stage ≡ Ready = ap (λ (s : State). s.stage) same in
-      let none : new.draft ≡ no_mail = ap (λ (s : State). s.draft) same in
+      let none : new.draft ≡ no_mail envelope.client =
+      ap (λ (s : State). s.draft) same ∙ same_client in
       elim stores [
         | inl done ↦
             subst (λ r. Moves old (Some sent) envelope (Some (codes ".")) (Some r) new)
             (sym done.0) (record {
               mails = file_of done.1 old.draft ∷ [];
-              after = no_mail;
+              after = no_mail envelope.client;
               brings = (
                 old.draft.text,
                 done.1,
@@ -399,15 +404,16 @@ module _ (old new : State) (said : Option Reply) where
     | inl cut ↦
         subst (λ r. Moves old begun envelope (Some input.body) r new) (sym cut.1)
         (subst (Moves old begun envelope (Some input.body) (Some reply.CutOff)) (sym cut.2)
-        (quiet old (idle Greeting old.left old.count old.folder) begun envelope (Some input.body)
-        reply.CutOff refl (cut_off begun) (λ l. cc) (keeps_none old)))
+        (quiet old (idle Greeting old.draft.client old.left old.count old.folder) begun envelope
+        (Some input.body) reply.CutOff refl (cut_off begun inside) (λ l. cc) (keeps_none old)))
     | inr whole ↦ at begun inside whole.1
   ]
     where
-      cut_off : (begun : Option Sent)
-          → Addresses begun envelope (Some input.body) (Some reply.CutOff) no_mail
-      cut_off None = refl
-      cut_off (Some sent) = refl
+      cut_off : (begun : Option Sent) → Inside begun envelope old
+          → Addresses begun envelope (Some input.body) (Some reply.CutOff)
+          (no_mail old.draft.client)
+      cut_off None outside = ap (λ (mail : Mail). no_mail mail.client) outside.1
+      cut_off (Some sent) inside = ap (λ (mail : Mail). no_mail mail.client) inside.1
 
       at : (begun : Option Sent) → Inside begun envelope old
           → AnswersAt old.stage old input.body said new

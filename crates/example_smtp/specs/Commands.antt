@@ -1,9 +1,9 @@
 -- The commands of a client, the lines that say them, and the lines that reply to them.
 use Rattle.std.specs.Prelude.{◌≡◌, ◌≢◌, ◌⊎◌, ◌<◌, ◌≤◌, ◌^◌, ◌-◌, ℕ, List, [], ◌∷◌, ◌++◌}
 use Rattle.std.specs.Prelude.{MatchResult, codes}
-use Rattle.std.specs.List.{Contains}
+use Rattle.std.specs.List.{All, Contains}
 use Rattle.std.specs.declared.result.Result.{Result}
-use Rattle.ascii.specs.Class.{IsBlank}
+use Rattle.ascii.specs.Class.{IsBlank, IsGraphic}
 use Rattle.ascii.specs.Search.{ContainsText, IgnoringCase, IsCut, IsPrefix, StartsWith}
 use Rattle.ascii.specs.Trim.{TrimsEnd}
 use Rattle.ascii.specs.View.{text_of}
@@ -136,10 +136,19 @@ abbrev pub ReadsCommand : List ℕ → Result Command Reply → Type 0
 ReadsCommand line result = MatchResult result (Says line) (IsFault line)
 
 -- `line` begins as a request of HTTP does
-abbrev pub IsForeign : List ℕ → Type 0
-IsForeign line = StartsWith (codes "GET ") line ⊎ StartsWith (codes "POST ") line
+abbrev pub IsRequestLine : List ℕ → Type 0
+IsRequestLine line = StartsWith (codes "GET ") line ⊎ StartsWith (codes "POST ") line
     ⊎ StartsWith (codes "PUT ") line ⊎ StartsWith (codes "HEAD ") line
     ⊎ StartsWith (codes "CONNECT ") line
+
+-- `line` is a header: a name of visible characters other than a colon, a colon, and any text
+abbrev pub IsHeader : List ℕ → Type 0
+IsHeader line = (name : List ℕ) × (text : List ℕ) × (name ++ 58 ∷ text ≡ line) × (name ≢ [])
+    × ¬ (Contains name 58) × All IsGraphic name
+
+-- `line` is that of another protocol: it begins as a request of HTTP does, or is a header
+abbrev pub IsForeign : List ℕ → Type 0
+IsForeign line = IsRequestLine line ⊎ IsHeader line
 
 -- the line of a reply, or its lines
 abbrev pub reply_line : Reply → List ℕ

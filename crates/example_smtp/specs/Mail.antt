@@ -11,8 +11,9 @@ use Rattle.example_smtp.specs.declared.session.Fault.{Fault}
 use Rattle.example_smtp.specs.declared.message.Message.{Message}
 use Rattle.example_smtp.specs.declared.session.Stage.{Stage}
 
--- a message: its sender, its recipients and its text
+-- a message: how its client introduced itself, its sender, its recipients and its text
 pub record Mail : Type 0 where
+  pub client : List ℕ
   pub sender : List ℕ
   pub recipients : List (List ℕ)
   pub text : List ℕ
@@ -37,9 +38,10 @@ delivered_to recipient = codes "Delivered-To: " ++ (recipient ++ 13 ∷ 10 ∷ [
 abbrev pub IsUnbroken : List ℕ → Type 0
 IsUnbroken text = IsFirstByte is_line_break text None
 
--- the line of a file that says when the mail came
-abbrev pub received_at : List ℕ → List ℕ
-received_at date = codes "Received: by localhost; " ++ (date ++ 13 ∷ 10 ∷ [])
+-- the line of a file that says from which client and when the mail came
+abbrev pub received_at : List ℕ → List ℕ → List ℕ
+received_at client date = codes "Received: from "
+    ++ (client ++ (codes " by localhost; " ++ (date ++ 13 ∷ 10 ∷ [])))
 
 -- the lines that say whom a mail comes from, and whom it goes to
 abbrev pub address_lines : Mail → List ℕ
@@ -47,7 +49,7 @@ address_lines mail = return_path mail.sender ++ flat_map delivered_to mail.recip
 
 -- the lines before the text in the file of a message that came at this time
 abbrev pub envelope_of : List ℕ → Mail → List ℕ
-envelope_of date mail = address_lines mail ++ received_at date
+envelope_of date mail = address_lines mail ++ received_at mail.client date
 
 -- the file of a message that came at this time
 abbrev pub file_of : List ℕ → Mail → List ℕ
@@ -71,20 +73,21 @@ string_texts strings = map (λ string. string.text) strings
 -- the texts of a message
 abbrev pub mail_of : Message → Mail
 mail_of message = record {
+  client = message.client.text;
   sender = message.sender.text;
   recipients = string_texts message.recipients.items;
   text = message.text.text;
 }
 
--- a message with nothing in it
-abbrev pub no_mail : Mail
-no_mail = record { sender = []; recipients = []; text = [] }
+-- a message of this client with nothing in it
+abbrev pub no_mail : List ℕ → Mail
+no_mail client = record { client = client; sender = []; recipients = []; text = [] }
 
--- no message was begun
-abbrev pub idle : Stage → ℕ → ℕ → Option Contents → State
-idle stage left count folder = record {
+-- no message of this client was begun
+abbrev pub idle : Stage → List ℕ → ℕ → ℕ → Option Contents → State
+idle stage client left count folder = record {
   stage = stage;
-  draft = no_mail;
+  draft = no_mail client;
   fault = None;
   left = left;
   count = count;

@@ -58,28 +58,32 @@ abbrev pub reset_stage : Stage → Stage
 reset_stage Greeting = Greeting
 reset_stage other = Ready
 
--- the envelope after a command that is carried out: it has a sender; or one recipient more; or is
--- none; or stays
+-- the envelope after a command that is carried out: it has a sender; or one recipient more; or
+-- another client and nothing more; or nothing more than its client; or stays
 abbrev pub envelope_after : Mail → Command → Mail
-envelope_after old (SetSender address) = record no_mail { sender = text_of address }
+envelope_after old (SetSender address) =
+    record (no_mail old.client) { sender = text_of address }
 envelope_after old (AddRecipient address) =
     record old { recipients = old.recipients ++ text_of address ∷ [] }
-envelope_after old (Introduce domain) = no_mail
-envelope_after old (Extend domain) = no_mail
-envelope_after old Reset = no_mail
+envelope_after old (Introduce domain) = no_mail (text_of domain)
+envelope_after old (Extend domain) = no_mail (text_of domain)
+envelope_after old Reset = no_mail old.client
 envelope_after old other = old
 
 -- the state after a command that is allowed
 abbrev pub after : State → Command → State
-after old (Introduce domain) = record old { stage = Ready; draft = no_mail }
-after old (Extend domain) = record old { stage = Ready; draft = no_mail }
+after old (Introduce domain) =
+    record old { stage = Ready; draft = envelope_after old.draft (Introduce domain) }
+after old (Extend domain) =
+    record old { stage = Ready; draft = envelope_after old.draft (Extend domain) }
 after old (SetSender address) =
     record old { stage = Sender; draft = envelope_after old.draft (SetSender address) }
 after old (AddRecipient address) =
     record old { stage = Recipients; draft = envelope_after old.draft (AddRecipient address) }
 after old BeginLines =
     record old { stage = Lines; draft = record old.draft { text = [] }; fault = None }
-after old Reset = record old { stage = reset_stage old.stage; draft = no_mail }
+after old Reset =
+    record old { stage = reset_stage old.stage; draft = envelope_after old.draft Reset }
 after old other = old
 
 -- the command is not carried out: it is not allowed, or adds a recipient too many, or an allocation
@@ -146,9 +150,10 @@ EndsWhole old said new =
 -- the message that was begun is ended with this reply, by its fault, and another may begin
 abbrev pub Ends : Option Fault → State → Reply → State → Type 0
 Ends None old said new =
-    EndsWhole old said new × (new ≡ idle Ready old.left new.count new.folder)
+    EndsWhole old said new × (new ≡ idle Ready old.draft.client old.left new.count new.folder)
 Ends (Some fault) old said new =
-    (said ≡ reply_of_fault fault) × (new ≡ idle Ready old.left old.count old.folder)
+    (said ≡ reply_of_fault fault)
+    × (new ≡ idle Ready old.draft.client old.left old.count old.folder)
 
 -- the reply to a line of a message: a dot alone ends it; to another line there is none
 abbrev pub AnswersLine : State → List ℕ → Option Reply → State → Type 0
@@ -168,7 +173,8 @@ AnswersAt other old line said new =
 -- not ask for, ends it as well
 abbrev pub AnswersInput : State → Line → Option Reply → State → Type 0
 AnswersInput old input said new = (((input.ending ≡ Absent) ⊎ ¬ (IsAscii input.body))
-    × (said ≡ Some reply.CutOff) × (new ≡ idle Greeting old.left old.count old.folder))
+    × (said ≡ Some reply.CutOff)
+    × (new ≡ idle Greeting old.draft.client old.left old.count old.folder))
     ⊎ ((input.ending ≢ Absent) × AnswersAt old.stage old input.body said new)
 
 -- the reply to an error of the input

@@ -4,12 +4,13 @@ ghost use Rattle.std.specs.Prelude.{◌↔◌, ◌≡◌, IsTrue, List, MatchOpt
 ghost use Rattle.ascii.specs.View.{text_of};
 ghost use Rattle.example_smtp.specs.Commands.{BeginsWithVerb, HasParts, IsArgument};
 ghost use Rattle.example_smtp.specs.Commands.{IsArgumentFault, IsCall, IsForeign, IsSenderPath};
-ghost use Rattle.example_smtp.specs.Commands.{IsSized, IsTooLarge, IsWord, ReadsCommand, SaysSender};
+ghost use Rattle.example_smtp.specs.Commands.{IsHeader, IsRequestLine, IsSized, IsTooLarge, IsWord};
+ghost use Rattle.example_smtp.specs.Commands.{ReadsCommand, SaysSender};
 ghost use Rattle.example_smtp.specs.Commands.{name_of, reply_line};
 
 use crate::paths::{address_of, is_recipient, is_sender};
 use ascii::AsciiChar;
-use ascii::classes::Blank;
+use ascii::classes::{Blank, Graphic};
 use ascii_formats::AsciiStrExt;
 use ascii_lines::AsciiStr;
 
@@ -332,9 +333,27 @@ fn argument_fault(verb: Verb, argument: AsciiStr<'_>) -> Reply
     }
 }
 
-/// Returns `true` if the line begins as a request of HTTP does, which a browser may be made to send to any port.
+/// Returns `true` if the line begins as a request of HTTP does, which a browser may be made to send to any port, or is a
+/// header, as a client sends it that speaks no SMTP.
 pub fn is_foreign(line: AsciiStr<'_>) -> bool
     ensures { IsTrue result ↔ IsForeign (text_of line.entry) }
+{
+    is_request_line(line) || is_header(line)
+}
+
+/// Returns `true` if the line is a header: a name and a colon, and anything after them.
+fn is_header(line: AsciiStr<'_>) -> bool
+    ensures { IsTrue result ↔ IsHeader (text_of line.entry) }
+{
+    match line.split_once(AsciiChar::Colon) {
+        Some((name, _)) => !name.is_empty() && name.is_all::<Graphic>(),
+        None => false,
+    }
+}
+
+/// Returns `true` if the line begins as a request of HTTP does.
+fn is_request_line(line: AsciiStr<'_>) -> bool
+    ensures { IsTrue result ↔ IsRequestLine (text_of line.entry) }
 {
     if line.starts_with(AsciiStr::literal("GET ")) {
         return true;

@@ -8,9 +8,10 @@ ghost use Rattle.example_smtp.specs.Mail.{delivered_to, received_at, string_text
 use ascii_lines::{AsciiStr, AsciiString};
 use std::alloc::{AllocError, Global};
 
-/// A message: its text has each line with CR LF.
+/// A message: its text has each line with CR LF. The client is what it introduced itself by.
 #[derive(Drop)]
 pub struct Message {
+    pub client: AsciiString,
     pub sender: AsciiString,
     pub recipients: Vec<AsciiString>,
     pub text: AsciiString,
@@ -21,13 +22,23 @@ impl Message {
 
     /// Creates a message with nothing in it. Does not allocate.
     pub fn new(alloc: Global) -> Message
-        ensures { mail_of result ≡ no_mail }
+        ensures { mail_of result ≡ no_mail [] }
     {
         Message {
+            client: AsciiString::new(alloc),
             sender: AsciiString::new(alloc),
             recipients: Vec::new(alloc),
             text: AsciiString::new(alloc),
         }
+    }
+
+    /// Drops all of the message but its client. Does not allocate.
+    pub fn clear(&mut self, alloc: Global)
+        ensures { mail_of self.new ≡ no_mail self.old.client.text }
+    {
+        self.sender = AsciiString::new(alloc);
+        self.recipients = Vec::new(alloc);
+        self.text = AsciiString::new(alloc);
     }
 
     /// Returns the lines before the text in the file of the message, or an error if an allocation fails.
@@ -36,7 +47,7 @@ impl Message {
             envelope.text ≡ envelope_of (text_of date.entry) (mail_of self.now)) }
     {
         let mut envelope = self.address_lines(alloc)?;
-        append_received(&mut envelope, date)?;
+        append_received(&mut envelope, self.client.as_ascii_str(), date)?;
         Ok(envelope)
     }
 
@@ -68,12 +79,18 @@ fn append_recipients(
     Ok(())
 }
 
-/// Appends the line that says when the mail came, or returns an error if an allocation fails.
-fn append_received(envelope: &mut AsciiString, date: AsciiStr<'_>) -> Result<(), AllocError>
-    ensures { OnOk result
-        (envelope.new.text ≡ envelope.old.text ++ received_at (text_of date.entry)) }
+/// Appends the line that says from which client and when the mail came, or returns an error if an allocation fails.
+fn append_received(
+    envelope: &mut AsciiString,
+    client: AsciiStr<'_>,
+    date: AsciiStr<'_>,
+) -> Result<(), AllocError>
+    ensures { OnOk result (envelope.new.text
+        ≡ envelope.old.text ++ received_at (text_of client.entry) (text_of date.entry)) }
 {
-    envelope.push_str(AsciiStr::literal("Received: by localhost; "))?;
+    envelope.push_str(AsciiStr::literal("Received: from "))?;
+    envelope.push_str(client)?;
+    envelope.push_str(AsciiStr::literal(" by localhost; "))?;
     append_line(envelope, date)?;
     Ok(())
 }

@@ -1,6 +1,6 @@
 //! Receiving mail from a client: a session over the lines of a channel.
 
-ghost use Rattle.std.specs.Prelude.{◌≡◌};
+ghost use Rattle.std.specs.Prelude.{◌≡◌, []};
 ghost use Rattle.ascii_lines.specs.Serve.{IsUp};
 ghost use Rattle.example_smtp.specs.Deliveries.{Receives};
 ghost use Rattle.example_smtp.specs.Mail.{idle};
@@ -20,7 +20,7 @@ pub fn receive<C: Channel, A: Allocator, F: Folder>(
     session: &mut Session<F>,
 ) -> Stop
     requires lines { IsUp lines.old.state }
-    requires session { session.old ≡ idle Stage.Greeting 20 0 session.old.folder }
+    requires session { session.old ≡ idle Stage.Greeting [] 20 0 session.old.folder }
     ensures { Receives lines.old.state session.old result lines.new.state session.new }
 {
     serve(lines, session)

@@ -20,7 +20,6 @@ use ascii_lines::{
 use std::alloc::{AllocError, Allocator, Global};
 use std::io;
 use std::marker::Model;
-use std::mem::replace;
 
 /// The most recipients of a message.
 const MOST_RECIPIENTS: usize = 1_000;
@@ -89,12 +88,12 @@ impl<F: Folder> Session<F> {
     ghost use Rattle.example_smtp.specs.Mail.{idle};
     ghost use Rattle.example_smtp.specs.Session.{AnswersAt, AnswersCommand, AnswersInput};
     ghost use Rattle.example_smtp.specs.Session.{AnswersLine, Counts};
-    ghost use Rattle.example_smtp.specs.Session.{Ends, Follows, IsStranger, KeepsLine, RefusesAt};
+    ghost use Rattle.example_smtp.specs.Session.{Ends, EndsWhole, Follows, IsStranger, KeepsLine, RefusesAt};
     ghost use Rattle.example_smtp.specs.Session.{after, spoiled};
 
     /// Creates a session that stores messages in the mailbox, if there is one. Does not allocate.
     pub fn new(alloc: Global, mailbox: Option<Mailbox<F>>) -> Session<F>
-        ensures { result ≡ idle Stage.Greeting 20 0 mailbox }
+        ensures { result ≡ idle Stage.Greeting [] 20 0 mailbox }
     {
         Session {
             alloc,
@@ -122,7 +121,7 @@ impl<F: Folder> Session<F> {
             Some(line) if received.ending() != Ending::Absent => self.take_whole(line),
             _ => {
                 self.stage = Stage::Greeting;
-                self.draft = Message::new(self.alloc);
+                self.draft.clear(self.alloc);
                 self.fault = None;
                 Some(Reply::CutOff)
             }
@@ -184,13 +183,15 @@ impl<F: Folder> Session<F> {
         ensures kept { OnErr result (self.new ≡ self.old) }
     {
         match command {
-            Command::Introduce { .. } | Command::Extend { .. } => {
-                self.draft = Message::new(self.alloc);
+            Command::Introduce { domain } | Command::Extend { domain } => {
+                let client = domain.to_ascii_string(self.alloc)?;
+                self.draft.clear(self.alloc);
+                self.draft.client = client;
                 self.stage = Stage::Ready;
             }
             Command::SetSender { address } => {
                 let sender = address.to_ascii_string(self.alloc)?;
-                self.draft = Message::new(self.alloc);
+                self.draft.clear(self.alloc);
                 self.draft.sender = sender;
                 self.stage = Stage::Sender;
             }
@@ -205,7 +206,7 @@ impl<F: Folder> Session<F> {
                 self.stage = Stage::Lines;
             }
             Command::Reset => {
-                self.draft = Message::new(self.alloc);
+                self.draft.clear(self.alloc);
                 self.stage = stage_after_reset(self.stage);
             }
             Command::Verify { .. } | Command::Reply | Command::Leave => {}
@@ -247,26 +248,36 @@ impl<F: Folder> Session<F> {
     }
 
     /// Stores or drops the message that was begun.
-    #[tactic(auto, using(crate::proofs::FolderLemmas::in_none))]
     fn end_message(&mut self) -> Reply
         ensures { Ends self.old.fault self.old result self.new }
     {
-        let draft = replace(&mut self.draft, Message::new(self.alloc));
+        let said = match self.fault {
+            Some(fault) => reply_of_fault(fault),
+            None => self.store_message(),
+        };
+        self.draft.clear(self.alloc);
+        self.fault = None;
         self.stage = Stage::Ready;
-        if let Some(fault) = self.fault {
-            self.fault = None;
-            return reply_of_fault(fault);
-        }
+        said
+    }
+
+    /// Stores the message that was begun, and counts it.
+    #[tactic(auto, using(crate::proofs::FolderLemmas::in_none))]
+    fn store_message(&mut self) -> Reply
+        ensures stored { EndsWhole self.old result self.new }
+        ensures kept { self.new ≡ record self.old {
+            count = self.new.count; folder = self.new.folder } }
+    {
         let Ok(date) = date_in(&self.mailbox, self.alloc) else {
             return Reply::NotStored;
         };
-        let Ok(envelope) = draft.envelope(self.alloc, date.as_ascii_str()) else {
+        let Ok(envelope) = self.draft.envelope(self.alloc, date.as_ascii_str()) else {
             return Reply::NoMemory;
         };
         if !store(
             &mut self.mailbox,
             envelope.as_ascii_str(),
-            draft.text.as_ascii_str(),
+            self.draft.text.as_ascii_str(),
         ) {
             return Reply::NotStored;
         }

@@ -1,6 +1,6 @@
 use Rattle.std.proofs.Common.{inl, inr, refl}
 use Rattle.std.proofs.lemmas.Bool.{false≢true}
-use Rattle.example_smtp.proofs.commands.is_foreign.Goals as goal
+use Rattle.example_smtp.proofs.commands.is_request_line.Goals as goal
 
 pub returns-then-starts_with-3 : goal.returns-then-starts_with-3
 returns-then-starts_with-3 c = (

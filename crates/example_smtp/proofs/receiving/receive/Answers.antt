@@ -13,7 +13,7 @@ returns g c =
     let talk = served.talk in
     let old = c.args.lines.now.state in
     let told = tells old talk.events old.talk.endings old.talk.size talk.now _
-    (place_of c.serve.new.lines.state.talk c.serve.new.handler) [] talk.steps None no_mail (
+    (place_of c.serve.new.lines.state.talk c.serve.new.handler) [] talk.steps None (no_mail []) (
       λ is. let e : Greeting ≡ Lines =
           ap (λ (s : State). s.stage) (sym c.requires.session) ∙ is in cc,
       ap (λ (s : State). s.draft) c.requires.session,
