@@ -1,6 +1,6 @@
 -- Media types: `type/subtype`, and parameters `; name=value`.
 use Rattle.std.specs.Prelude.{◌≡◌, ◌≢◌, ◌⊎◌, ℕ, List, [], ◌∷◌, ◌++◌, IfSome, MatchOption}
-use Rattle.std.specs.Prelude.{MatchResult, Option, slice_get, ⊤}
+use Rattle.std.specs.Prelude.{MatchResult, Option, codes, slice_get, ⊤}
 use Rattle.std.specs.List.{All, filter_map, flat_map}
 use Rattle.std.specs.declared.result.Result.{Result}
 use Rattle.ascii.specs.Class.{IsBlank, IsTokenCode}
@@ -65,7 +65,7 @@ IsMissing text (At part (Digits count)) = ⊥
 IsMissing text (At part Quoted) = (part.whole ≡ text)
     × ((rest : List ℕ) × (part_text part ≡ 34 ∷ rest))
     × ((inside rest : List ℕ) → ¬ (StartsQuoted 34 92 (part_text part) inside rest))
-IsMissing text (At part (Named name)) = (part.whole ≡ text)
+IsMissing text (At part (Named name)) = (part.whole ≡ text) × (name.now ≡ codes "a token")
     × IfSome (slice_get (part_text part) 0) (λ first. ¬ (IsTokenCode first))
 IsMissing text Memory = ⊤
 
