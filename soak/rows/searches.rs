@@ -113,7 +113,7 @@ fn ask_lines_with(rows: &mut Rows, text: &str, needle: &str, lines: Lines, in_an
 
 /// Texts about the length up to which they are searched by masks.
 fn lines_at_each_position(rows: &mut Rows) {
-    for size in [60, 255, 256, 257, 300] {
+    for size in [60, 255, 256, 257, 300, 1_023, 1_024, 1_025] {
         for position in 0..size - 1 {
             let mut text: Vec<u8> = b".\n......................".iter().copied().cycle().take(size).collect();
             text[position..position + 2].copy_from_slice(b"ab");

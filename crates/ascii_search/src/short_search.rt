@@ -2,8 +2,8 @@
 //!
 //! Up to 64 positions are tested at once: a mask has a bit for each position, which is set if a needle
 //! there would have its first, its middle and its last byte. Such a position is a candidate, and a
-//! needle of more than three bytes is compared at the candidates only. Fewer than four positions are
-//! tested one by one. If case matters, the crate `memchr` searches texts of more than 256 bytes and texts with too
+//! needle of more than three bytes is compared at the candidates only. Fewer than six positions are
+//! tested one by one. If case matters, the crate `memchr` searches texts of more than 1,024 bytes and texts with too
 //! many candidates. If case is ignored, `windows` searches the remainder after too many comparisons in vain.
 
 ghost use Rattle.std.specs.Prelude.{◌≡◌, ◌↔◌, ◌+◌, ◌<◌, ◌≤◌, IfSome, IsTrue, length, map, true};
@@ -22,11 +22,12 @@ use std::simd::prelude::*;
 const BLOCK: usize = 64;
 
 /// The largest number of bytes that `first_needle` searches by masks. `memchr` prepares each search, which pays only for
-/// longer texts: for 4 characters in 31 it took 738 instructions, and the masks 129, when this was written.
-pub const SHORT: usize = 256;
+/// longer texts: for 4 characters in 31 it took 738 instructions, and the masks 129, when this was written. For 4 in 1,000
+/// both took as long, and in 4,000 the masks a quarter longer.
+pub const SHORT: usize = 1_024;
 
 /// Fewer positions than this are tested one by one, because a mask of so few costs more than the tests.
-const LEAST: usize = 4;
+const LEAST: usize = 6;
 
 /// A needle of at most this many bytes is at each candidate: its first, middle and last byte are all of it.
 const EXACT: usize = 3;
@@ -423,7 +424,7 @@ fn candidates_at_ends<M: Comparison, const N: usize>(hay: &[u8], needle: &[u8]) 
     candidates::<M, N>(hay, needle, 0) | (candidates::<M, N>(hay, needle, last) << last)
 }
 
-/// Returns the mask of the candidates among all positions, of which there are 4 to 64.
+/// Returns the mask of the candidates among all positions, of which there are 6 to 64.
 #[inline(always)]
 fn all_candidates<M: Comparison>(hay: &[u8], needle: &[u8]) -> u64
     requires some { 0 < length needle.now }
@@ -439,7 +440,7 @@ fn all_candidates<M: Comparison>(hay: &[u8], needle: &[u8]) -> u64
     } else if positions >= 8 {
         candidates_at_ends::<M, 8>(hay, needle)
     } else {
-        candidates_at_ends::<M, LEAST>(hay, needle)
+        candidates_at_ends::<M, 4>(hay, needle)
     }
 }
 
