@@ -355,7 +355,7 @@ class StoresMail(unittest.TestCase):
 
 
 class TakesArguments(unittest.TestCase):
-    """What is not a call of a server, and a call for help: what stands on standard output and on standard error, and the status.
+    """Wrong arguments of a server, and a call for help: what it writes to standard output and standard error, and the status.
     A folder that cannot be used is a line on standard error, and no greeting. A write that fails is a status."""
 
     USAGE = b"usage: %s.*\n.*\nStatus .+\n"

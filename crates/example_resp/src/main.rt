@@ -18,7 +18,7 @@ use std::{env, io};
 /// How the program is called.
 const USAGE: &str = "usage: example_resp\nAnswers the requests of standard input as a store does, on standard output.\nStatus 64: wrong usage; 74: a read or a write failed.";
 
-/// The status if there are arguments.
+/// The status of wrong arguments.
 const WRONG_USAGE: u8 = 64;
 
 /// The status if a read or a write of the streams failed.

@@ -51,16 +51,14 @@ abbrev pub IsText : Sent → List ℕ → Type 0
 IsText sent text = (lines : List (List ℕ)) × (sent ≡ map Some lines)
     × (text ≡ text_of_lines lines)
 
--- the envelope after the command that a line says
-abbrev pub Obeys : Mail → List ℕ → Mail → Type 0
-Obeys old line new = (command : Command) × Says line command × (new ≡ envelope_after old command)
-
 -- the envelope after an exchange: outside a message, that after the command that the line says, if
 -- the reply is 250; nothing but the client after a line that was cut off. A message has it to its
 -- end
 abbrev pub Addresses : Option Sent → Mail → Option (List ℕ) → Option Reply → Mail → Type 0
-Addresses None old (Some line) (Some Done) new = Obeys old line new
-Addresses None old (Some line) (Some Extensions) new = Obeys old line new
+Addresses None old (Some line) (Some Done) new =
+    (command : Command) × Says line command × (new ≡ envelope_after old command)
+Addresses None old (Some line) (Some Extensions) new =
+    (command : Command) × Says line command × (new ≡ envelope_after old command)
 Addresses None old line (Some CutOff) new = new ≡ no_mail old.client
 Addresses None old line said new = new ≡ old
 Addresses (Some sent) old line None new = new ≡ old
