@@ -288,6 +288,7 @@ fn main() -> ExitCode {
     // A position outside the text makes the upstream crate panic, which is an answer here.
     std::panic::set_hook(Box::new(|_| ()));
     crash::tell();
+    crash::watch();
     if words.first().is_some_and(|word| word == "row") && words.len() > 1 {
         return match one_row(&words[1], words.len() > 2) {
             Some(as_expected) => ExitCode::from(u8::from(!as_expected)),
