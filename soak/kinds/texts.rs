@@ -107,7 +107,7 @@ pub fn at_page_end(random: &mut Random, asked: &mut Asked) {
     bytes.copy_from_slice(&want);
     calls::ask_kernels(asked, bytes);
     kernel_answers(&want, &mut asked.want);
-    for class in 0..17 {
+    for class in 0..super::words::CLASSES.len() as u8 {
         calls::ask_class(asked, class, bytes, &[0, 1]);
         super::words::class_answers(class, &want, &[0, 1], &mut asked.want);
     }

@@ -10,6 +10,7 @@ pub static ROWS: &[Row] = &[
         let all: Vec<u8> = (0..=255).collect();
         rows.each(0..CLASSES.len(), |class, asked| ask_class(class as u8, &all, &[], asked));
     }),
+    ("each_class_in_long_texts", long_texts),
     ("kernels_over_few_bytes", few_bytes),
     ("marks_of_several_bytes", |rows| {
         let all: Vec<u8> = (0..=255).collect();
@@ -47,6 +48,19 @@ pub static ROWS: &[Row] = &[
 const DIGIT: u8 = 5;
 const BLANK: u8 = 8;
 const TOKEN: u8 = 14;
+
+/// Texts of a byte that is in a class, with one that is not, or the other way round.
+fn long_texts(rows: &mut Rows) {
+    for (class, is_in) in CLASSES.iter().enumerate() {
+        let byte = |inside: bool| (0..=255).find(|byte| is_in(*byte) == inside).expect("a byte on each side");
+        for (inside, length) in [15, 16, 17, 33, 64, 65, 97, 130].into_iter().flat_map(|length| [(true, length), (false, length)]) {
+            for at in [0, 1, 15, 16, 31, 32, 63, 64, 95, 96, 128, length - 1, length] {
+                let text: Vec<u8> = (0..length).map(|place| byte(inside == (place != at))).collect();
+                rows.ask(|asked| ask_class(class as u8, &text, &[], asked));
+            }
+        }
+    }
+}
 
 fn few_bytes(rows: &mut Rows) {
     let texts: [&[u8]; 6] = [&[0x20, 0x0b, 0xa0], &[0x85, 0x20], &[0x20, 0x09], &[], b"  \twhite \tspace  \t", b"\x0ba\x0b"];
