@@ -16,7 +16,8 @@ use std::process::ExitCode;
 use std::{env, io};
 
 /// How the program is called.
-const USAGE: &str = "usage: example_resp\nAnswers the requests of standard input as a store does, on standard output.\nStatus 64: wrong usage; 74: a read or a write failed.";
+const USAGE: &str =
+    "usage: example_resp\nAnswers the requests of standard input as a store does, on standard output.\nStatus 64: wrong usage; 74: a read or a write failed.";
 
 /// The status of wrong arguments.
 const WRONG_USAGE: u8 = 64;

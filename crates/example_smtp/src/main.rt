@@ -20,7 +20,8 @@ use std::{env, io};
 use system::SystemFolder;
 
 /// How the program is called.
-const USAGE: &str = "usage: example_smtp [FOLDER]\nReceives mail over standard input and output, and stores it in FOLDER, a Maildir.\nStatus 64: wrong usage; 73: FOLDER cannot be used; 74: a read or a write failed.";
+const USAGE: &str =
+    "usage: example_smtp [FOLDER]\nReceives mail over standard input and output, and stores it in FOLDER, a Maildir.\nStatus 64: wrong usage; 73: FOLDER cannot be used; 74: a read or a write failed.";
 
 /// The status of wrong arguments.
 const WRONG_USAGE: u8 = 64;

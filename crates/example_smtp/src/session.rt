@@ -266,7 +266,9 @@ impl<F: Folder> Session<F> {
     fn store_message(&mut self) -> Reply
         ensures stored { EndsWhole self.old result self.new }
         ensures kept { self.new ≡ record self.old {
-            count = self.new.count; folder = self.new.folder } }
+          count = self.new.count;
+          folder = self.new.folder;
+        } }
     {
         let Ok(date) = date_in(&self.mailbox, self.alloc) else {
             return Reply::NotStored;

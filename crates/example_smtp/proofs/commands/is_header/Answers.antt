@@ -12,14 +12,23 @@ before_colon [] [] x y left right same = refl
 before_colon [] (code ∷ b) x y left right same = absurd (right (0, grind arith, grind arith))
 before_colon (code ∷ a) [] x y left right same = absurd (left (0, grind arith, grind arith))
 before_colon (code ∷ a) (other ∷ b) x y left right same =
-    grind (arith, before_colon a b x y (λ has. left (Contains-append_right (code ∷ []) a 58 has))
-    (λ has. right (Contains-append_right (other ∷ []) b 58 has)))
+    grind (
+      arith,
+      before_colon a b x y (λ has. left (Contains-append_right (code ∷ []) a 58 has))
+          (λ has. right (Contains-append_right (other ∷ []) b 58 has)),
+    )
 
 pub returns-then-not-is_empty : goal.returns-then-not-is_empty
 returns-then-not-is_empty c =
     let cut = c.in-Some.ensures in (
-      λ is. (text_of c.in-Some.name, text_of c.in-Some.field-0-1, cut.joined, grind arith, cut.sides,
-      c.is_all.ensures.0 is),
+      λ is. (
+        text_of c.in-Some.name,
+        text_of c.in-Some.field-0-1,
+        cut.joined,
+        grind arith,
+        cut.sides,
+        c.is_all.ensures.0 is,
+      ),
       λ (name, text, joined, some, out, all).
           let same : name ≡ text_of c.in-Some.name =
           before_colon name (text_of c.in-Some.name) text (text_of c.in-Some.field-0-1) out cut.sides
