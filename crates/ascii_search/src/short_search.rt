@@ -23,7 +23,7 @@ const BLOCK: usize = 64;
 
 /// The largest number of bytes that `first_needle` searches by masks. `memchr` prepares each search, which pays only for
 /// longer texts: for 4 characters in 31 it took 738 instructions, and the masks 129, when this was written. For 4 in 1,000
-/// both took as long, and in 4,000 the masks a quarter longer.
+/// both took as long, and in 4,000 the masks a third longer.
 pub const SHORT: usize = 1_024;
 
 /// Fewer positions than this are tested one by one, because a mask of so few costs more than the tests.

@@ -215,7 +215,7 @@ error_line BadQuotes = codes "-ERR Protocol error: unbalanced quotes in request"
 error_line BadInput = codes "-ERR Protocol error: bad input"
 error_line NoMemory = codes "-OOM out of memory"
 
--- the line that says that there is no command of this name
+-- the error line for a command that is not known, with its name
 abbrev pub unknown_line : List ℕ → List ℕ
 unknown_line name = codes "-ERR unknown command '" ++ (name ++ codes "'")
 

@@ -143,7 +143,7 @@ pub fn say_fault<K: Sink, A: Allocator>(
     }
 }
 
-/// Writes that there is no command of this name. Does not allocate.
+/// Writes the error line for a command that is not known, with its name. Does not allocate.
 fn say_unknown<K: Sink, A: Allocator>(name: &[u8], replies: &mut Replies<K, A>)
     ensures { Says replies.old (line_reply (unknown_line name.now) ∷ []) replies.new }
 {
