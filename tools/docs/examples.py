@@ -271,17 +271,55 @@ def aliases():
     return {name: of_type[1] for name, of_type in heads if of_type}
 
 
+@cache
+def results():
+    """The type that each call of a type returns, without its parameters: itself for `Self`, and what a `Result` has."""
+    found = {}
+    for item in items_of_kind("impl"):
+        owner = sources.impl_name(item)[1]
+        for it in item.inner:
+            of_type = re.search(r"-> (?:Result<)?(\w+)", it.head)
+            if of_type:
+                found[owner, it.name] = owner if of_type[1] == "Self" else of_type[1]
+    return found
+
+
+def type_of(value, types):
+    """The type of a value that a call of a type, or of a variable of a known type, returns; none for any other value."""
+    nested = r"[^()]*(?:\((?:[^()]|\([^()]*\))*\)[^()]*)*"
+    call = re.match(rf"(?:([A-Z]\w*)(?:::<[^()]*?>)?::|(\w+)\.)(\w+)\({nested}\)\??$", value)
+    owner = call and (call[1] or types.get(call[2]))
+    return call and (results().get((owner, call[3])) or results().get((aliases().get(owner), call[3])))
+
+
+def types_of_variables(lines):
+    """The types of the variables of an example, as far as they are known. A name that two types have, or that a pattern binds,
+    has none."""
+    types, bound = {}, []
+    for line in lines:
+        simple = re.match(r"let (?:mut )?(\w+) = (.*);$", line)
+        if simple:
+            of_type = type_of(simple[2], types)
+            types[simple[1]] = of_type if types.get(simple[1], of_type) == of_type else None
+        else:
+            bound += re.findall(r"(?:\blet\b(.*?)=|\bfor\b(.*?)\bin\b|\|(.*?)\||(.*?)=>)", line)
+    named = set(re.findall(r"\w+", str(bound)))
+    return {name: of_type for name, of_type in types.items() if of_type and name not in named}
+
+
 def may_have_a_condition(lines, known):
     """Whether an example names a call that has a condition, or passes `literal` what is not plainly an ASCII text. A call by the
-    path of a type or a trait is its own, or of another crate; any other call may be each one of its name."""
+    path of a type or a trait, or of a variable whose type is known, is its own, or of another crate; any other call may be each
+    one of its name."""
     text = "\n".join(lines)
     literals = LITERAL.findall(text)
     if len(literals) != len(re.findall(r"\bliteral\(", text)) or not all(map(ASCII.fullmatch, literals)):
         return True
-    names = {name for (_, name), has_one in known.items() if has_one}
-    called = re.findall(r"(?:\b([A-Z]\w*)(?:::<[^()]*?>)?::)?(\w+)(?:::<[^()]*>)?\(", text)
+    names, types = {name for (_, name), has_one in known.items() if has_one}, types_of_variables(lines)
+    called = re.findall(r"(?:\b([A-Z]\w*)(?:::<[^()]*?>)?::|(?<![.\w])(\w+)\.)?(\w+)(?:::<[^()]*>)?\(", text)
     of_owner = lambda owner, name: any(known.get((it, name)) for it in (owner, aliases().get(owner)))  # noqa: E731
-    return any(of_owner(owner, name) if owner else name in names for owner, name in called)
+    owned = [(owner or types.get(variable), name) for owner, variable, name in called]
+    return any(of_owner(owner, name) if owner else name in names for owner, name in owned)
 
 
 def examples_by_crate():

@@ -73,6 +73,15 @@ class Examples(unittest.TestCase):
         for line in ('AsciiStr::literal("a\\u{7f}").len()', "offset(1)", "renew(2)", "AsciiString::new(3)", "Vec::new(alloc)"):
             self.assertFalse(examples.may_have_a_condition([line], known), line)
 
+    def test_a_variable_has_the_calls_of_its_type(self):
+        known = {("Text", "insert"): True, ("AsciiMap", "insert"): False}
+        make, put = "let mut map = AsciiMap::new(alloc);", "map.insert(key, 1)?"
+        self.assertFalse(examples.may_have_a_condition([make, put], known))
+        others = ("let mut map = AsciiString::new(alloc);", "let mut map = other(alloc);", "let mut map = AsciiMap::new(alloc).iter();")
+        patterns = ("for map in maps {", "maps.each(|map| 1);", "if let Some(map) = text {", "Some(map) => 1,")
+        for line in (*others, *patterns):
+            self.assertTrue(examples.may_have_a_condition([make, line, put], known), line)
+
     def test_an_example_brings_the_traits_that_it_is_about(self):
         line = 'Output::new(Vec::new(alloc)).failures()'
         self.assertIn("use ascii_devices::{Output, Sink};", examples.use_lines([line], "ascii_devices", "Output"))
