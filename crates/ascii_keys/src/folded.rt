@@ -170,16 +170,18 @@ impl<T: AsStr> Hash for Folded<T> {
     }
 }
 
-/// The order of the lower images of two byte strings.
+/// The order of the lower images of two byte strings. Only bytes that differ are mapped, since equal bytes have equal images.
 #[tactic(auto, using(crate::proofs::OrderLemmas::compares_next, crate::proofs::OrderLemmas::compares_end))]
 fn compare_lower(first: &[u8], second: &[u8]) -> Ordering
     ensures { result ≡ slice_cmp nat_cmp (map lower_image first.now) (map lower_image second.now) }
 {
     let common = first.len().min(second.len());
     for i in 0..common {
-        let order = lower(&first[i]).cmp(&lower(&second[i]));
-        if order != Ordering::Equal {
-            return order;
+        if first[i] != second[i] {
+            let order = lower(&first[i]).cmp(&lower(&second[i]));
+            if order != Ordering::Equal {
+                return order;
+            }
         }
     }
     first.len().cmp(&second.len())
