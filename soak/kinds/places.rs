@@ -45,6 +45,7 @@ fn quoted_parts(text: &[u8], (start, end): Part, quote: u8, escape: u8) -> Resul
 fn part_by(text: &[u8], part: Part, step: Step, prefix: &[u8]) -> Result<Part, Option<usize>> {
     let (start, end) = part;
     let found = text[start..end].iter().position(|byte| *byte == step.code).map(|at| start + at);
+    let digit = text[start..end].iter().position(u8::is_ascii_digit).map(|at| start + at);
     let mid = (step.at <= end - start).then(|| start + step.at);
     let counted = mid.filter(|mid| text[start..*mid].iter().all(u8::is_ascii_digit));
     let digits = text[start..end].iter().position(|byte| !byte.is_ascii_digit()).map_or(end, |at| start + at);
@@ -59,7 +60,7 @@ fn part_by(text: &[u8], part: Part, step: Step, prefix: &[u8]) -> Result<Part, O
         7 => Ok((digits, end)),
         8 => Ok(quoted_parts(text, part, step.code, b'\\')?.0),
         9 => Ok(quoted_parts(text, part, step.code, b'\\')?.1),
-        10 | 19 => (found == Some(start)).then_some((start + 1, end)).ok_or(NOTHING),
+        10 | 21 => (found == Some(start)).then_some((start + 1, end)).ok_or(NOTHING),
         11 => (start < digits).then_some((start, digits)).ok_or(NOTHING),
         12 => (start < digits).then_some((digits, end)).ok_or(NOTHING),
         13 => Ok((start, counted.ok_or(NOTHING)?)),
@@ -67,6 +68,8 @@ fn part_by(text: &[u8], part: Part, step: Step, prefix: &[u8]) -> Result<Part, O
         15 => Ok(quoted_parts(text, part, step.code, step.code).map_err(|_| NOTHING)?.1),
         16 => word_at(text, part, step.at).ok_or(NOTHING),
         17 => Ok(trimmed(text, part, |byte| byte.is_ascii_digit())),
+        19 => Ok((start, digit.ok_or(NOTHING)?)),
+        20 => Ok((digit.ok_or(NOTHING)? + 1, end)),
         _ => (start < digits && digits - start <= step.at).then_some((digits, end)).ok_or(NOTHING),
     }
 }
@@ -74,7 +77,7 @@ fn part_by(text: &[u8], part: Part, step: Step, prefix: &[u8]) -> Result<Part, O
 pub fn parts(random: &mut Random, asked: &mut Asked) {
     let text = random.text();
     let (mut texts, mut steps) = (Vec::new(), Vec::new());
-    for kind in random.script(20) {
+    for kind in random.script(22) {
         let (code, at) = (random.code_of(&text), random.place(text.len() / 2));
         let start = texts.len();
         texts.extend(random.needle(&text));

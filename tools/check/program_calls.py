@@ -242,7 +242,7 @@ LINES_OF_A_REGISTER = b"GET\nhello\r\nGET\nno\377ascii\nGET\nQUIT\nGET\n"
 REPLIES_OF_A_REGISTER = b"\nOK\nhello\nBAD\nhello\nBYE\n"
 SPELLING = b"the cat's on a well-known mat\n\"The\tdog\", it's ON a mat --\n\n (cats)."
 HEAD = b"GET /a?b HTTP/1.1\r\nHost: a.example\r\nContent-Type: text/plain; CHARSET=utf-8\r\n%s\r\nbody"
-SETTINGS = b"; a comment\n[net]\nport = 80\n host=  a.example \n[disk]\npath =\n"
+SETTINGS = b"; a comment\n[net]\nport = 80\n host:  a.example=b \n[disk]\npath =\n"
 SENTENCE = b"$GPGGA,123519,4807.038,N,01131.000,E,1,08,0.9,545.4,M,46.9,M,,*"
 SENTENCES = [SENTENCE + b"47", SENTENCE.replace(b"545.4", b"-545.4") + b"6A", SENTENCE + b"46",
              SENTENCE.replace(b"7.038", b"7.0.8") + b"5A", b"$GPRMC,123519,A*07", b"0abc~", b""]
@@ -287,6 +287,8 @@ TOKENS = b"""1:1: Word let
 STORED = [(TOP / "crates/examples" / name).read_bytes() for name in ("stdin", "stdout")]
 EXAMPLES = [
     Call("head", ["head"], HEAD % b"", 0, b"GET /a?b 1.1\nhost a.example\ncharset utf-8\n"),
+    Call("head of a target with a host", ["head"], HEAD.replace(b"/a", b"HTTP://b.example:80") % b"", 0,
+         b"GET HTTP://b.example:80?b 1.1\nhost b.example:80\ncharset utf-8\n"),
     Call("head with a header twice", ["head"], HEAD % b"HOST:b\r\n", 0, b"GET /a?b 1.1\nheader 2 comes twice\n"),
     Call("head of no request", ["head"], b"GET  / HTTP/1.1\r\n\r\n", 0, b"not a request line: GET  / HTTP/1.1\n"),
     Call("head of two digits after the point", ["head"], HEAD.replace(b"1.1", b"1.01") % b"", 0,
@@ -294,8 +296,8 @@ EXAMPLES = [
     Call("head of a media type without a subtype", ["head"], HEAD.replace(b"plain", b"") % b"", 0,
          b"GET /a?b 1.1\nhost a.example\ncontent type, 1:6: expected a token\n"),
     Call("host", ["host"], b"Accept: */*\nHOST:  a.example\nx\303\244: 1\n", 0, b"a.example\nthe byte at index 1 is not ASCII\n"),
-    Call("ini", ["ini"], SETTINGS, 0, b"3:8: [net] port = 80\n4:9: [net] host = a.example\n6:7: [disk] path = \n"),
-    Call("ini of a line without a sign", ["ini"], b"[net]\n port\n", 0, b"2:2: no '='\n"),
+    Call("ini", ["ini"], SETTINGS, 0, b"3:8: [net] port = 80\n4:9: [net] host = a.example=b\n6:7: [disk] path = \n"),
+    Call("ini of a line without a delimiter", ["ini"], b"[net]\n port\n", 0, b"2:2: no '=' or ':'\n"),
     Call("keys", ["keys"], b"host=a\nport\nz\303\244=1\n", 0, b"host\nport\nthe byte at index 1 is not ASCII\n"),
     Call("lines", ["lines"], STORED[0], 0, STORED[1]),
     Call("nmea", ["nmea"], b"\n".join(SENTENCES), 0, FIXES),

@@ -1,18 +1,22 @@
 -- The text between two positions of a text, and what it starts and ends with.
 use Rattle.std.proofs.Common.{◌≡◌, ◌≤◌, ◌↔◌, ℕ, ◌+◌, ◌-◌, List, [], ◌∷◌, ◌++◌, length, drop, arith, ap}
-use Rattle.std.proofs.Common.{◌∙◌, append_assoc, drop-drop, length-append, length-drop, subst}
+use Rattle.std.proofs.Common.{◌∙◌, append_assoc, drop-drop, get_or, length-append, length-drop, subst}
+use Rattle.std.proofs.Common.{take, take-append-drop}
 use Rattle.std.specs.List.{flat_map, slice_range}
-use Rattle.std.proofs.lemmas.List.{flat_map_more}
+use Rattle.std.proofs.lemmas.Grind.{common_steps}
+use Rattle.std.proofs.lemmas.List.{drop_more, flat_map_more, get_or-take}
 use Rattle.std.proofs.lemmas.List.{length-take, length-take-le, take_all}
+use Rattle.std.proofs.lemmas.List.Elements.{All-from_get_or}
 use Rattle.std.proofs.lemmas.List.Folds.{drop_split}
 use Rattle.std.proofs.Math.Seq.{drop-append_seam}
+use Rattle.ascii.specs.Bytes.{IsFirstOf}
 use Rattle.ascii.specs.Placed.{HasAt}
 use Rattle.ascii.specs.Search.{EndsWith, StartsWith}
 use Rattle.ascii.specs.View.{text_of}
 use Rattle.ascii.proofs.CutLemmas.{suffix_fits}
 use Rattle.ascii.proofs.PlacedLemmas.{has_at}
 use Rattle.ascii_formats.specs.declared.parts.Part.{Part}
-use Rattle.ascii_formats.specs.Parts.{IsFollowed, part_text}
+use Rattle.ascii_formats.specs.Parts.{IsCutBy, IsFollowed, part_text}
 
 -- all of a text
 pub whole_range : (text : List ℕ) → slice_range text 0 (length text) ≡ text
@@ -88,6 +92,19 @@ pub after_cut : (before between after text : List ℕ) → before ++ (between ++
     → EndsWith after text
 after_cut before between after text joined =
     (before ++ between, append_assoc before between after ∙ joined)
+
+-- the cut at the first code of a class
+pub cut_by : (Is : ℕ → Type 0) (text : List ℕ) (at : ℕ) → IsFirstOf Is text 0 (length text) at
+    → IsCutBy Is text (take at text) (drop (at + 1) text)
+cut_by Is text at first = record {
+  on = get_or text at 0;
+  is = first.one;
+  cut = record {
+    joined = grind (arith, drop_more, take-append-drop);
+    sides = All-from_get_or (λ code. ¬ (Is code)) (take at text) 0
+        (grind (arith, common_steps, get_or-take));
+  };
+}
 
 -- ---- for parsers that take things from the start of a part, one after the other
 

@@ -2,6 +2,7 @@
 use Rattle.std.specs.Prelude.{◌≡◌, ◌≢◌, ◌<◌, ◌≤◌, ◌⊎◌, ⊤, ℕ, ◌+◌, List, [], ◌∷◌, ◌++◌, codes}
 use Rattle.std.specs.Prelude.{decimal, length, map, slice_range, take}
 use Rattle.std.specs.List.{All}
+use Rattle.ascii.specs.ByClass.{IsOutside}
 use Rattle.ascii.specs.Class.{IsDigit}
 use Rattle.ascii.specs.Code.{code_of}
 use Rattle.ascii.specs.declared.ascii_str.AsciiStr.{AsciiStr}
@@ -18,6 +19,7 @@ use Rattle.ascii_formats.specs.declared.quotes.QuoteError.TheVariants.{NoQuote, 
 use Rattle.ascii_formats.specs.Numbers.{IsFaultIn, NumberRange}
 use Rattle.ascii_formats.specs.Quotes.{IsQuoteFault, StartsQuoted}
 use Rattle.ascii.specs.Parts.{WithStart}
+use Rattle.ascii.specs.Search.{IsCut}
 use Rattle.ascii.specs.Trim.{IsSpan, TrimsEnd, TrimsStart}
 use Rattle.ascii.specs.View.{debug_text, text_of}
 
@@ -43,6 +45,12 @@ pub record AreSidesFrom (from width : ℕ) (part : Part) (sides : Part × Part) 
 -- the sides of a cut of `part` that are `width` codes apart
 abbrev pub AreSidesOf : ℕ → Part → Part × Part → Type 0
 AreSidesOf width part sides = AreSidesFrom part.start width part sides
+
+-- the cut of `text` at its first code of the class `Is`, `on`: no code of `before` is in the class
+pub record IsCutBy (Is : ℕ → Type 0) (text before after : List ℕ) : Type 0 where
+  pub on : ℕ
+  pub is : Is on
+  pub cut : IsCut (λ before after. IsOutside Is before) (on ∷ []) text before after
 
 -- `part` is `taken`, followed by `rest`
 pub record IsFollowed (part : Part) (taken : List ℕ) (rest : Part) : Type 0 where

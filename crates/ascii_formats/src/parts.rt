@@ -5,7 +5,7 @@
 //! | `of` | all of a text |
 //! | `text`, `len`, `is_empty` | what is in the part |
 //! | `trim`, `trim_matches` | the part without the whitespace, or what is in a class, at its ends |
-//! | `split_once`, `split_at`, `span` | the two sides of a cut |
+//! | `split_once`, `split_once_by`, `split_at`, `span` | the two sides of a cut |
 //! | `take_some` | the characters of a class at the start, one at least, and the rest |
 //! | `take`, `digits` | such characters up to a number, or a number of digits, and the rest; or an error |
 //! | `expect`, `expect_quoted` | what comes after a character, or a quoted text and what comes after it; or an error |
@@ -32,6 +32,7 @@ ghost use Rattle.std.specs.Prelude.{◌≡◌, ◌≢◌, ◌<◌, ◌≤◌, �
 ghost use Rattle.std.specs.Prelude.{IfSome, IsTrue, MatchOption, MatchResult, OnErr, drop, length};
 ghost use Rattle.std.specs.Prelude.{slice_get, take};
 ghost use Rattle.std.proofs.Props.{props};
+ghost use Rattle.ascii.specs.ByClass.{IsOutside};
 ghost use Rattle.ascii.specs.Class.{IsWhitespace};
 ghost use Rattle.ascii.specs.Code.{code_of};
 ghost use Rattle.ascii.specs.Search.{EndsWith, IsCutAt, IsPrefix, StartsWith};
@@ -93,7 +94,7 @@ impl<'a> Part<'a> {
     ghost use Rattle.std.specs.List.{Contains};
     ghost use Rattle.ascii_formats.specs.Parts.{AreDigits, AreSidesFrom, AreSidesOf, IsFollowed};
     ghost use Rattle.ascii_formats.specs.Parts.{IsFrontTo, IsQuotedIn, IsTaken, IsUntakable};
-    ghost use Rattle.ascii_formats.specs.Parts.{HasNoQuoted, LacksDigits};
+    ghost use Rattle.ascii_formats.specs.Parts.{HasNoQuoted, IsCutBy, LacksDigits};
     ghost use Rattle.ascii_formats.specs.Parts.{IsPartFault, IsPartQuoteFault, IsRestFrom};
     ghost use Rattle.ascii_formats.specs.Parts.{IsTrimmed, part_text};
 
@@ -217,6 +218,23 @@ impl<'a> Part<'a> {
     {
         let (before, after) = self.text().split_once(on)?;
         Some((self.front(before), self.rest(after)))
+    }
+
+    /// Returns the sides of the part before and after its first character in the class, or `None` if no
+    /// character of the part is in it. That character is in neither side.
+    ///
+    ///     Part::of(AsciiStr::literal("a\tb c")).split_once_by::<Blank>() // Some((0..1 "a", 2..5 "b c"))
+    ///     Part::of(AsciiStr::literal("ab")).split_once_by::<Blank>() // None
+    #[tactic(auto, using(crate::proofs::PartsLemmas::cut_by))]
+    pub fn split_once_by<C: Searched>(self) -> Option<(Part<'a>, Part<'a>)>
+        ensures text { let text = part_text self.entry in MatchOption result (IsOutside C.is text)
+            (λ sides. IsCutBy C.is text (part_text sides.0) (part_text sides.1)) }
+        ensures place { IfSome result (AreSidesOf 1 self.entry) }
+    {
+        let at = self.text().find_by::<C>()?;
+        let (before, _) = self.split_at(at);
+        let (_, after) = self.split_at(at + 1);
+        Some((before, after))
     }
 
     /// Returns the first `mid` characters of the part, and the others. Constant time.

@@ -2,6 +2,8 @@
 
 ghost use Rattle.std.specs.Prelude.{◌≡◌, ℕ, ◌≤◌, ◌↔◌, List, [], ◌∷◌, IfOk, IsOk, IsTrue};
 ghost use Rattle.std.specs.Prelude.{MatchOption, MatchResult, length};
+ghost use Rattle.ascii.specs.ByClass.{IsOutside};
+ghost use Rattle.ascii.specs.Bytes.{IsFirstOf};
 ghost use Rattle.ascii.specs.Code.{code_of};
 ghost use Rattle.ascii.specs.Search.{IsPrefix, StartsWith};
 ghost use Rattle.ascii.specs.View.{text_of};
@@ -17,11 +19,12 @@ use crate::numbers::{Number, NumberError, begins_with_sign, leading_number};
 use crate::places::{Fault, Place};
 use crate::quotes::{QuoteError, closing_quote, unquote_into};
 use crate::unescape::{UnescapeError, unescape_into};
-use ascii::{AsciiChar, AsciiRange, AsciiStr, AsciiString};
+use ascii::classes::Searched;
+use ascii::{AsciiChar, AsciiRange, AsciiStr, AsciiString, kernels};
 use std::alloc::{AllocError, Allocator};
 
-/// The calls of a view that read its first character, numbers, quotes and escapes, and find a line and a
-/// column.
+/// The calls of a view that read its first character, numbers, quotes and escapes, and find a class, a line
+/// and a column.
 pub trait AsciiStrExt: Sized {
     // the codes of the text
     ghost codes: { Self → List ℕ };
@@ -51,6 +54,19 @@ pub trait AsciiStrExt: Sized {
     fn strip_prefix_char(self, ch: AsciiChar) -> Option<Self>
         ensures { MatchOption result (¬ (StartsWith (code_of ch ∷ []) (codes self)))
             (λ rest. IsPrefix (code_of ch ∷ []) (codes self) (codes rest)) };
+
+    /// Returns the position of the first character of the view that is in the class, or `None` if no
+    /// character is in it.
+    ///
+    /// Scans the view once, 32 bytes at a time. For the first character that is not in the class use
+    /// `first_not`; for one character, `position`; to cut a part there, `Part::split_once_by`.
+    ///
+    ///     AsciiStr::literal("px42").find_by::<Digit>() // Some(2)
+    ///     AsciiStr::literal("px").find_by::<Digit>() // None
+    ///     AsciiStr::literal("").find_by::<Digit>() // None
+    fn find_by<C: Searched>(self) -> Option<usize>
+        ensures { let text = codes self in
+            MatchOption result (IsOutside C.is text) (IsFirstOf C.is text 0 (length text)) };
 
     /// Returns the number that the decimal digits of the view write, or an error with the first
     /// position at fault.
@@ -225,6 +241,10 @@ impl<'a> AsciiStrExt for AsciiStr<'a> {
             return None;
         }
         Some(rest)
+    }
+
+    fn find_by<C: Searched>(self) -> Option<usize> {
+        kernels::first_of::<C>(self.as_bytes())
     }
 
     fn to_number<N: Number>(self) -> Result<N, NumberError> {

@@ -5,15 +5,16 @@ use Rattle.std.specs.List.{All, AllZip, Contains, fold}
 use Rattle.std.specs.declared.alloc.Global.{Global}
 use Rattle.std.specs.declared.result.Result.{Result}
 use Rattle.std.specs.declared.vec.Vec.{Vec}
+use Rattle.ascii.specs.ByClass.{IsOutside}
 use Rattle.ascii.specs.Class.{IsWhitespace}
 use Rattle.ascii.specs.Search.{IsCutAt, IsPrefix, StartsWith}
 use Rattle.ascii.specs.View.{text_of}
 use Rattle.ascii.specs.declared.ascii_str.AsciiStr.{AsciiStr}
-use Rattle.ascii_formats.specs.Parts.{AreSidesOf, IsTrimmed, part_text}
+use Rattle.ascii_formats.specs.Parts.{AreSidesOf, IsCutBy, IsTrimmed, part_text}
 use Rattle.ascii_formats.specs.declared.parts.Part.{Part}
 use Rattle.examples.specs.declared.ini.IniError.{IniError}
 use Rattle.examples.specs.declared.ini.IniError.TheVariants.{At, Memory}
-use Rattle.examples.specs.declared.ini.What.TheVariants.{NoEquals, NoKey, OpenSection}
+use Rattle.examples.specs.declared.ini.What.TheVariants.{NoDelimiter, NoKey, OpenSection}
 use Rattle.examples.specs.declared.ini.Entry.{Entry}
 use Rattle.examples.specs.declared.ini.Parsed.{Parsed}
 use Rattle.examples.specs.declared.ini.Parsed.TheVariants.{Blank, Section, Setting}
@@ -42,11 +43,16 @@ pub record AreSidesAt (on : ℕ) (part : Part) (sides : Part × Part) : Type 0 w
   pub cut : IsCutAt on (part_text part) (part_text sides.0) (part_text sides.1)
   pub place : AreSidesOf 1 part sides
 
--- `key` and `value` are the parts of `body` before and after its first `=`, without whitespace at
--- their ends
+-- the code may be between a key and its value: it is `=` or `:`
+abbrev pub IsDelimiter : ℕ → Type 0
+IsDelimiter code = (code ≡ 61) ⊎ (code ≡ 58)
+
+-- `key` and `value` are the parts of `body` before and after its first `=` or `:`, without whitespace
+-- at their ends
 pub record HasSides (body key value : Part) : Type 0 where
   pub sides : Part × Part
-  pub cut : AreSidesAt 61 body sides
+  pub cut : IsCutBy IsDelimiter (part_text body) (part_text sides.0) (part_text sides.1)
+  pub place : AreSidesOf 1 body sides
   pub trimmed_key : IsTrimmed IsWhitespace sides.0 key
   pub trimmed_value : IsTrimmed IsWhitespace sides.1 value
 
@@ -58,7 +64,7 @@ pub record IsOther (body : List ℕ) : Type 0 where
 
 -- what `body` says, a line without whitespace at its ends. `Blank`: it is empty or begins with `;`.
 -- `Section`: it is `[`, the name and `]`, and the name contains no `]`. `Setting`: the key is
--- before the first `=`, and not empty, and the value after it
+-- before the first `=` or `:`, and not empty, and the value after it
 abbrev pub Says : Part → Parsed → Type 0
 Says body Blank = (part_text body ≡ []) ⊎ StartsWith (codes ";") (part_text body)
 Says body (Section name) = (name.whole ≡ body.whole) × (name.start ≡ body.start + 1)
@@ -69,14 +75,15 @@ Says body (Setting key value) =
 
 -- why `body`, a line without whitespace at its ends, was rejected; it is the part at fault.
 -- `OpenSection`: it begins with `[`, and its first `]` is not its last code, or it has none.
--- `NoEquals`: it contains no `=`. `NoKey`: it does, and before that is nothing but whitespace
+-- `NoDelimiter`: it contains neither `=` nor `:`. `NoKey`: it contains one, and before the first is
+-- nothing but whitespace
 abbrev pub IsFaultOf : Part → IniError → Type 0
 IsFaultOf body (At part OpenSection) = (part ≡ body)
     × ((rest : List ℕ) × IsPrefix (codes "[") (part_text body) rest
     × (Contains rest 93 → (name : List ℕ) × (after : List ℕ) × IsCutAt 93 rest name after
     × (after ≢ [])))
-IsFaultOf body (At part NoEquals) =
-    (part ≡ body) × IsOther (part_text body) × ¬ (Contains (part_text body) 61)
+IsFaultOf body (At part NoDelimiter) =
+    (part ≡ body) × IsOther (part_text body) × IsOutside IsDelimiter (part_text body)
 IsFaultOf body (At part NoKey) = (part ≡ body) × IsOther (part_text body)
     × ((key : Part) × (value : Part) × HasSides body key value × (part_text key ≡ []))
 IsFaultOf body Memory = ⊥

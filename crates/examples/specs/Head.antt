@@ -1,9 +1,12 @@
 -- The head of an HTTP/1.1 request.
 use Rattle.std.specs.Prelude.{◌≡◌, ◌≢◌, List, [], ◌∷◌, ◌++◌, ◌-◌, ◌^◌, All, IsSome, IsSomeAnd}
-use Rattle.std.specs.Prelude.{ℕ, ⊤, codes, length, slice_get, take}
+use Rattle.std.specs.Prelude.{◌⊎◌, ℕ, ⊤, codes, length, slice_get, take}
 use Rattle.std.specs.List.{AllPairs, AllZip}
+use Rattle.ascii.specs.ByClass.{IsOutside}
 use Rattle.ascii.specs.Class.{IsGraphic, IsTokenCode}
+use Rattle.ascii.specs.Search.{IgnoringCase, IsPrefix}
 use Rattle.ascii_formats.specs.Numbers.{WritesNumber}
+use Rattle.ascii_formats.specs.Parts.{IsCutBy}
 use Rattle.ascii.specs.View.{text_of}
 use Rattle.ascii.specs.declared.ascii_str.AsciiStr.{AsciiStr}
 use Rattle.ascii_keys.specs.Maps.{Entries, folded_value_at}
@@ -27,6 +30,22 @@ pub record IsRequestLine (line : List ℕ) (request : RequestLine) : Type 0 wher
   pub method_token : All IsTokenCode (text_of request.method)
   pub target_some : text_of request.target ≢ []
   pub target_graphic : All IsGraphic (text_of request.target)
+
+-- the code ends the authority of a URL: it is `/`, `?` or `#`
+abbrev pub EndsAuthority : ℕ → Type 0
+EndsAuthority code = (code ≡ 47) ⊎ (code ≡ 63) ⊎ (code ≡ 35)
+
+-- `authority` is what `text` has before its first code that ends one, or `text` if it has none
+abbrev pub BeginsWithAuthority : List ℕ → List ℕ → Type 0
+BeginsWithAuthority text authority =
+    ((after : List ℕ) × IsCutBy EndsAuthority text authority after)
+    ⊎ ((authority ≡ text) × IsOutside EndsAuthority text)
+
+-- `target` is `http://`, in any case, and a text that begins with `authority`
+abbrev pub HasAuthority : List ℕ → List ℕ → Type 0
+HasAuthority target authority = (rest : List ℕ)
+    × IgnoringCase (λ start. IsPrefix start target rest) (codes "http://")
+    × BeginsWithAuthority rest authority
 
 -- `header` is the header of `line`
 abbrev pub IsHeaderOf : OwnedLine → Header → Type 0

@@ -1,11 +1,14 @@
-//! Prints the request line of an HTTP/1.1 request, its header Host and the charset of its content, or why it has none.
+//! Prints the request line of an HTTP/1.1 request, its host and the charset of its content, or why it has none. The host
+//! is that of the target, if it begins with `http://`, and otherwise that of the header Host.
 #![tactic(auto)]
 
-ghost use Rattle.std.specs.Prelude.{IfSome, MatchResult};
+ghost use Rattle.std.specs.Prelude.{IfSome, MatchOption, MatchResult, codes};
+ghost use Rattle.std.proofs.Common.{rules};
+ghost use Rattle.ascii.specs.Search.{IgnoringCase, StartsWith};
 ghost use Rattle.ascii.specs.View.{text_of};
-ghost use Rattle.examples.specs.Head.{AreHeaders, IsHeadersError, IsRequestLine};
+ghost use Rattle.examples.specs.Head.{AreHeaders, HasAuthority, IsHeadersError, IsRequestLine};
 
-use ascii::classes::{Graphic, Token};
+use ascii::classes::{ByRanges, Graphic, Ranges, Token};
 use ascii_formats::AsciiStrExt;
 use ascii_formats::parts::{ParseError, Part};
 use ascii_keys::FoldedMap;
@@ -36,6 +39,28 @@ pub enum HeadersError {
     Memory,
 }
 
+pub struct AuthorityEndRanges;
+
+const AUTHORITY_END: [(u8, u8); 3] = [(b'#', b'#'), (b'/', b'/'), (b'?', b'?')];
+
+impl Ranges for AuthorityEndRanges {
+    ghost use Rattle.examples.specs.Head.{EndsAuthority};
+    ghost use Rattle.examples.specs.declared.head.TheConstants.{AUTHORITY_END};
+
+    ghost set = { EndsAuthority };
+
+    ghost list = { AUTHORITY_END };
+
+    ghost matches = { λ n. Prim.search rules };
+
+    fn ranges() -> &'static [(u8, u8)] {
+        &AUTHORITY_END
+    }
+}
+
+/// The characters of which the first ends the authority of a URL.
+pub type AuthorityEnd = ByRanges<AuthorityEndRanges>;
+
 /// Returns the parts of a request line, or `None` if the line is none.
 pub fn read_request_line<'a>(line: AsciiStr<'a>) -> Option<RequestLine<'a>>
     ensures { IfSome result (IsRequestLine (text_of line.entry)) }
@@ -58,6 +83,20 @@ pub fn read_request_line<'a>(line: AsciiStr<'a>) -> Option<RequestLine<'a>>
         target,
         minor: minor.to_number::<u8>().ok()?,
     })
+}
+
+/// Returns the authority of a target that begins with `http://`, in any case, or `None` if it does not: that of
+/// `http://a.example:80/b?c` is `a.example:80`.
+#[tactic(auto, using(crate::proofs::HeadLemmas::authority_to))]
+pub fn authority_of<'a>(target: AsciiStr<'a>) -> Option<AsciiStr<'a>>
+    ensures { let text = text_of target.entry in MatchOption result
+        (¬ (IgnoringCase (λ start. StartsWith start text) (codes "http://")))
+        (λ authority. HasAuthority text (text_of authority)) }
+{
+    let rest = target.strip_prefix_ignore_ascii_case(AsciiStr::literal("http://"))?;
+    let end = rest.find_by::<AuthorityEnd>().unwrap_or(rest.len());
+    let (authority, _) = rest.split_at(end);
+    Some(authority)
 }
 
 /// Returns the value of the header of each line by its name, ignoring ASCII case, or an error with the first line that
@@ -83,8 +122,8 @@ pub fn read_headers<'a>(
     Ok(headers)
 }
 
-/// Prints the header Host and the charset of the content, or why there are none.
-fn show_headers(rt: &HostRuntime, lines: &[OwnedLine]) -> io::Result<()> {
+/// Prints the host of a request and the charset of its content, or why there are none.
+fn show_headers(rt: &HostRuntime, target: AsciiStr<'_>, lines: &[OwnedLine]) -> io::Result<()> {
     let headers = match read_headers(rt.alloc(), lines) {
         Ok(found) => found,
         Err(HeadersError::NotHeader(index, error)) => {
@@ -93,7 +132,8 @@ fn show_headers(rt: &HostRuntime, lines: &[OwnedLine]) -> io::Result<()> {
         Err(HeadersError::Twice(index)) => return println!(rt; "header {index} comes twice"),
         Err(HeadersError::Memory) => return println!(rt; "no memory"),
     };
-    match headers.get(AsciiStr::literal("host")) {
+    let named = headers.get(AsciiStr::literal("host")).copied();
+    match authority_of(target).or(named) {
         Some(host) => println!(rt; "host {host}")?,
         None => println!(rt; "no host")?,
     }
@@ -115,10 +155,15 @@ fn show_charset(rt: &HostRuntime, text: AsciiStr<'_>) -> io::Result<()> {
     }
 }
 
-/// Prints the headers of lines with this end, or that the end is not that of a head.
-fn show_lines(rt: &HostRuntime, lines: &[OwnedLine], end: BlockEnd) -> io::Result<()> {
+/// Prints the host and the headers of lines with this end, or that the end is not that of a head.
+fn show_lines(
+    rt: &HostRuntime,
+    target: AsciiStr<'_>,
+    lines: &[OwnedLine],
+    end: BlockEnd,
+) -> io::Result<()> {
     match end {
-        BlockEnd::EmptyLine => show_headers(rt, lines),
+        BlockEnd::EmptyLine => show_headers(rt, target, lines),
         BlockEnd::EndOfInput => println!(rt; "the input ends in the head"),
         BlockEnd::Full => println!(rt; "more than 100 lines"),
         BlockEnd::Reader(error) => println!(rt; "{error}"),
@@ -134,7 +179,7 @@ fn show(rt: &HostRuntime, block: &Block) -> io::Result<()> {
         return println!(rt; "not a request line: {}", first.text);
     };
     println!(rt; "{} {} 1.{}", request.method, request.target, request.minor)?;
-    show_lines(rt, others, block.end)
+    show_lines(rt, request.target, others, block.end)
 }
 
 pub fn main(rt: HostRuntime) -> io::Result<()> {

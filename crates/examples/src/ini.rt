@@ -1,11 +1,14 @@
-//! Prints the settings of a file, each with the line and the column of its value: `key = value` in sections `[name]`,
-//! comments after `;`. A text that is not a settings file is reported with the place of its first fault.
+//! Prints the settings of a file, each with the line and the column of its value: `key = value` or `key: value` in
+//! sections `[name]`, comments after `;`. A text that is not a settings file is reported with the place of its first
+//! fault.
 #![tactic(auto)]
 
 ghost use Rattle.std.specs.Prelude.{◌≡◌, All, IfOk, MatchResult, Ok};
+ghost use Rattle.std.proofs.Common.{rules};
 ghost use Rattle.examples.specs.Entries.{ArePartsOf, IsEntryOf, IsErrorIn, IsFaultOf, IsLineError};
 ghost use Rattle.examples.specs.Entries.{ReadsEntries, ReadsLine, Says, after_line};
 
+use ascii::classes::{ByRanges, Ranges};
 use ascii::{AsciiChar, AsciiStr, text};
 use ascii_formats::AsciiStrExt;
 use ascii_formats::parts::Part;
@@ -34,11 +37,33 @@ pub enum Parsed<'a> {
 pub enum What {
     #[error("no ']' after the name of the section")]
     OpenSection,
-    #[error("no '='")]
-    NoEquals,
-    #[error("no key before the '='")]
+    #[error("no '=' or ':'")]
+    NoDelimiter,
+    #[error("no key before the '=' or ':'")]
     NoKey,
 }
+
+pub struct DelimiterRanges;
+
+const DELIMITER: [(u8, u8); 2] = [(b':', b':'), (b'=', b'=')];
+
+impl Ranges for DelimiterRanges {
+    ghost use Rattle.examples.specs.Entries.{IsDelimiter};
+    ghost use Rattle.examples.specs.declared.ini.TheConstants.{DELIMITER};
+
+    ghost set = { IsDelimiter };
+
+    ghost list = { DELIMITER };
+
+    ghost matches = { λ n. Prim.search rules };
+
+    fn ranges() -> &'static [(u8, u8)] {
+        &DELIMITER
+    }
+}
+
+/// The characters that may be between a key and its value.
+pub type Delimiter = ByRanges<DelimiterRanges>;
 
 /// Why a text was rejected: the part at fault and what is wrong at its start, or a lack of memory.
 #[derive(Clone, Copy)]
@@ -122,8 +147,8 @@ fn read_body<'a>(body: Part<'a>) -> Result<Parsed<'a>, IniError<'a>>
             _ => Err(IniError::At(body, What::OpenSection)),
         };
     }
-    let Some((key, value)) = body.split_once(AsciiChar::Equal) else {
-        return Err(IniError::At(body, What::NoEquals));
+    let Some((key, value)) = body.split_once_by::<Delimiter>() else {
+        return Err(IniError::At(body, What::NoDelimiter));
     };
     let (key, value) = (key.trim(), value.trim());
     if key.is_empty() {

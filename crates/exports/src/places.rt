@@ -57,6 +57,8 @@ fn part_by<'a>(part: Part<'a>, step: Step, texts: AsciiStr) -> Result<Part<'a>, 
         16 => part.words::<Digit>().nth(step.at).ok_or(NOTHING),
         17 => Ok(part.trim_matches::<Digit>()),
         18 => Ok(part.take::<Digit>(step.at).ok().ok_or(NOTHING)?.1),
+        19 => Ok(part.split_once_by::<Digit>().ok_or(NOTHING)?.0),
+        20 => Ok(part.split_once_by::<Digit>().ok_or(NOTHING)?.1),
         _ => part.expect(ch).ok().ok_or(NOTHING),
     }
 }

@@ -3,7 +3,7 @@ use Rattle.examples.proofs.ini.read_body.Goals as goal
 
 pub returns-then-is_empty-3-clause-body : goal.returns-then-is_empty-3-clause-body
 returns-then-is_empty-3-clause-body c =
-    let cut = c.in-Some-split_once-2 in (
+    let cut = c.in-Some-split_once_by in (
       refl,
       record { some = search rules; comment = search rules; section = search rules },
       (
@@ -11,7 +11,8 @@ returns-then-is_empty-3-clause-body c =
         c.trim-value.result,
         record {
           sides = (cut.key, cut.value);
-          cut = record { cut = cut.ensures.text; place = cut.ensures.place };
+          cut = cut.ensures.text;
+          place = cut.ensures.place;
           trimmed_key = c.trim-key.ensures;
           trimmed_value = c.trim-value.ensures;
         },
@@ -21,11 +22,12 @@ returns-then-is_empty-3-clause-body c =
 
 pub returns-clause-body : goal.returns-clause-body
 returns-clause-body c =
-    let cut = c.in-Some-split_once-2 in (
+    let cut = c.in-Some-split_once_by in (
       record { some = search rules; comment = search rules; section = search rules },
       record {
         sides = (cut.key, cut.value);
-        cut = record { cut = cut.ensures.text; place = cut.ensures.place };
+        cut = cut.ensures.text;
+        place = cut.ensures.place;
         trimmed_key = c.trim-key.ensures;
         trimmed_value = c.trim-value.ensures;
       },
