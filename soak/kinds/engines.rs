@@ -107,12 +107,8 @@ pub fn expected(mode: usize, source: &[u8], script: &[u8]) -> (Fault, Vec<u8>) {
     }
 }
 
-/// The number of modes of the bounded engine. The last two take all bytes.
-pub const BOUNDED: usize = 8;
-
-fn takes_all(mode: usize) -> bool {
-    mode >= 6
-}
+/// The number of modes of the bounded engine. The last one takes all bytes.
+pub const BOUNDED: usize = 7;
 
 /// What a mode of the bounded engine has written when an error ends its input, or at the end.
 pub fn bounded_output(mode: usize, text: &[u8], is_whole: bool) -> Vec<u8> {
@@ -124,7 +120,6 @@ pub fn bounded_output(mode: usize, text: &[u8], is_whole: bool) -> Vec<u8> {
         4 => text.to_ascii_uppercase(),
         5 => text.to_ascii_lowercase(),
         6 => text.escape_ascii().to_string().into_bytes(),
-        7 => text.iter().map(|byte| if byte.is_ascii() { *byte } else { b'?' }).collect(),
         // An open line is closed.
         _ => bodies(text, false),
     }
@@ -132,7 +127,7 @@ pub fn bounded_output(mode: usize, text: &[u8], is_whole: bool) -> Vec<u8> {
 
 /// What the bounded engine is expected to return, how many reads and writes have failed, and what it writes.
 pub fn expected_bounded(mode: usize, source: &[u8]) -> (Fault, usize, usize, Vec<u8>) {
-    let at = non_ascii(source).filter(|_| !takes_all(mode));
+    let at = non_ascii(source).filter(|_| mode != 6);
     let result = at.map_or(Fault("done", None), |at| Fault("ascii", Some(at)));
     (result, 0, 0, bounded_output(mode, &source[..at.unwrap_or(source.len())], at.is_none()))
 }

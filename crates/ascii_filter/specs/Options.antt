@@ -13,7 +13,8 @@ use Rattle.std.specs.declared.option.Option.TheVariants.{None, Some}
 use Rattle.clap.specs.declared.parser.matches.Found.{Found}
 use Rattle.clap.specs.Words.{first_value, matched_of, one_text, raw_values}
 use Rattle.ascii_run.specs.Names.{IsBoundedName, bounded_name}
-use Rattle.ascii_run.specs.declared.bounded.BoundedMode.TheVariants.{Json}
+use Rattle.ascii_run.specs.declared.bounded.BoundedMode.{BoundedMode}
+use Rattle.ascii_run.specs.declared.bounded.BoundedMode.TheVariants.{Copy, Json}
 use Rattle.ascii_filter.specs.declared.options.Options.{Options}
 use Rattle.ascii_filter.specs.declared.options.Other.{Other}
 use Rattle.ascii_filter.specs.declared.options.Other.TheVariants.{Stop, Replace, Escape}
@@ -86,12 +87,27 @@ HasNoOptionOfCheck options =
     (options.is_count ≡ false) × (options.is_quiet ≡ false) × (options.is_null ≡ false)
     × (options.max ≡ None)
 
+-- the word is the name of a mode other than `check`
+abbrev pub IsModeName : List ℕ → Type 0
+IsModeName word = IsBoundedName word ⊎ (word ≡ codes "lossy")
+
+-- the mode that the word names, and what it does with a byte above 127 if `--other` names `other`:
+-- `lossy` is `copy` that reads such a byte as `?`, and takes no `--other`
+abbrev pub NamesMode : List ℕ → Other → BoundedMode × Other → Type 0
+NamesMode word other named =
+    ((word ≡ codes "lossy") × (other ≡ Stop) × (named ≡ (Copy, Replace)))
+    ⊎ ((word ≡ bounded_name named.0) × (named.1 ≡ other))
+
+-- a mode with the name does not take `--other`
+abbrev pub TakesNoOther : List ℕ → Type 0
+TakesNoOther word = (word ≡ codes "check") ⊎ (word ≡ codes "lossy")
+
 -- the outcome of the options: the task, or the line that says what is wrong with them
 abbrev pub TaskOutcome : Options → Result Task (Bor (List ℕ)) → Type 0
 TaskOutcome options (Ok (Filter mode other)) =
-    (options.mode.now ≡ bounded_name mode) × HasNoOptionOfCheck options
-    × IsOtherOf options.other.now other
-    × (mode ≡ Json → options.files ≤ 1)
+    ((said : Other) × IsOtherOf options.other.now said
+    × NamesMode options.mode.now said (mode, other))
+    × HasNoOptionOfCheck options × (mode ≡ Json → options.files ≤ 1)
 TaskOutcome options (Ok (Check check)) =
     (options.mode.now ≡ codes "check") × IsOtherOf options.other.now Stop
     × (check.is_count ≡ options.is_count)
@@ -99,11 +115,11 @@ TaskOutcome options (Ok (Check check)) =
     × (check.most ≡ if options.is_quiet then 1 else unwrap_or options.max (2 ^ 64 - 1))
 TaskOutcome options (Err line) =
     ((line.now ≡ codes "ascii_filter: there is no such mode\n")
-    × (options.mode.now ≢ codes "check") × ¬ (IsBoundedName options.mode.now))
-    ⊎ (((line.now ≡ codes "ascii_filter: --other is not an option of check\n")
-    × (options.mode.now ≡ codes "check") × ¬ (IsOtherOf options.other.now Stop))
+    × (options.mode.now ≢ codes "check") × ¬ (IsModeName options.mode.now))
+    ⊎ (((line.now ≡ codes "ascii_filter: --other is not an option of check or lossy\n")
+    × TakesNoOther options.mode.now × ¬ (IsOtherOf options.other.now Stop))
     ⊎ (((line.now ≡ codes "ascii_filter: --count, --max, --null and --quiet are options of check\n")
-    × IsBoundedName options.mode.now × ¬ (HasNoOptionOfCheck options))
+    × IsModeName options.mode.now × ¬ (HasNoOptionOfCheck options))
     ⊎ ((line.now ≡ codes "ascii_filter: json takes one input\n")
     × (options.mode.now ≡ bounded_name Json) × HasNoOptionOfCheck options
     × (1 < options.files))))

@@ -1,8 +1,9 @@
 //! The options of the program.
 
-ghost use Rattle.std.specs.Prelude.{◌≡◌, ◌↔◌, IsTrue};
+ghost use Rattle.std.specs.Prelude.{◌≡◌, ◌↔◌, IsTrue, MatchOption, codes};
 ghost use Rattle.clap.specs.Words.{found_of};
-ghost use Rattle.ascii_filter.specs.Options.{AreOptionsOf, IsNull, IsQuiet, TaskOutcome, other_of};
+ghost use Rattle.ascii_filter.specs.Options.{AreOptionsOf, IsModeName, IsNull, IsQuiet, NamesMode};
+ghost use Rattle.ascii_filter.specs.Options.{TakesNoOther, TaskOutcome, other_of};
 
 use ascii_run::BoundedMode;
 use clap::builder::ValueParser;
@@ -12,8 +13,11 @@ use std::alloc::{AllocError, Global};
 /// What the program calls standard input.
 pub const STANDARD_INPUT: &str = "(standard input)";
 
-/// The name of the mode that names each non-ASCII byte. The others are those of the library.
+/// The name of the mode that names each non-ASCII byte.
 const CHECK: &str = "check";
+
+/// The name of `copy` with `--other=replace`. The other modes are those of the library.
+const LOSSY: &str = "lossy";
 
 /// The names of `Other`.
 const OTHERS: [&str; 3] = ["stop", "replace", "escape"];
@@ -145,10 +149,10 @@ pub fn task_of(options: Options<'_>) -> Result<Task, &'static str>
         ..
     } = options;
     let other = Other::from_name(options.other);
+    if other != Other::Stop && takes_no_other(options.mode) {
+        return Err("ascii_filter: --other is not an option of check or lossy\n");
+    }
     if options.mode == CHECK {
-        if other != Other::Stop {
-            return Err("ascii_filter: --other is not an option of check\n");
-        }
         let most = if is_quiet { 1 } else { max.unwrap_or(u64::MAX) };
         return Ok(Task::Check(Check {
             most,
@@ -157,7 +161,7 @@ pub fn task_of(options: Options<'_>) -> Result<Task, &'static str>
             is_null,
         }));
     }
-    let Some(mode) = BoundedMode::from_name(options.mode) else {
+    let Some((mode, other)) = named_mode(options.mode, other) else {
         return Err("ascii_filter: there is no such mode\n");
     };
     if is_count || is_quiet || is_null || max.is_some() {
@@ -169,12 +173,31 @@ pub fn task_of(options: Options<'_>) -> Result<Task, &'static str>
     Ok(Task::Filter { mode, other })
 }
 
+/// Whether the mode with a name takes no `--other`.
+fn takes_no_other(word: &str) -> bool
+    ensures { IsTrue result ↔ TakesNoOther word.now }
+{
+    word == CHECK || word == LOSSY
+}
+
+/// The mode that a word names, and what it does with a byte above 127 if `--other` names `other`.
+fn named_mode(word: &str, other: Other) -> Option<(BoundedMode, Other)>
+    requires { word.now ≡ codes "lossy" → other ≡ Other.Stop }
+    ensures { MatchOption result (¬ (IsModeName word.now)) (NamesMode word.now other) }
+{
+    if word == LOSSY {
+        return Some((BoundedMode::Copy, Other::Replace));
+    }
+    Some((BoundedMode::from_name(word)?, other))
+}
+
 /// The names of the modes, in the order of the help.
 pub fn mode_names(alloc: Global) -> Result<Vec<&'static str>, AllocError> {
     let mut names = Vec::new(alloc);
     for mode in BoundedMode::all() {
         names.push(mode.name())?;
     }
+    names.push(LOSSY)?;
     names.push(CHECK)?;
     Ok(names)
 }
@@ -189,7 +212,7 @@ Modes:
   upper   The text with its letters in upper case
   lower   The text with its letters in lower case
   escape  Each byte as `u8::escape_ascii` of Rust writes it; takes any bytes
-  lossy   Each byte, one above 127 as `?`; takes any bytes
+  lossy   The text with `?` for each byte above 127: copy --other=replace
   check   A line for each byte above 127: the file, the line, the column and the byte
 
 Exit status:

@@ -5,7 +5,6 @@ pub mod Ends
 pub mod Escape
 pub mod Json
 pub mod Lines
-pub mod Lossy
 use Rattle.std.specs.Prelude.{◌≡◌, ℕ, List, None, Ok, Option, reverse}
 use Rattle.std.specs.List.{flat_map}
 use Rattle.std.specs.Result.{result_err}

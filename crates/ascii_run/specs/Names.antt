@@ -14,7 +14,6 @@ bounded_name bounded.Json = codes "json"
 bounded_name bounded.Upper = codes "upper"
 bounded_name bounded.Lower = codes "lower"
 bounded_name bounded.Escape = codes "escape"
-bounded_name bounded.Lossy = codes "lossy"
 
 -- the word is the name of a mode in bounded memory
 abbrev pub IsBoundedName : List ℕ → Type 0

@@ -12,15 +12,13 @@ use Rattle.ascii.specs.Lines.{bodies}
 use Rattle.ascii.specs.Notations.{caret_text}
 use Rattle.ascii_run.specs.declared.bounded.BoundedMode.{BoundedMode}
 use Rattle.ascii_run.specs.declared.bounded.BoundedMode.TheVariants.{Copy, Lines, Caret, Json}
-use Rattle.ascii_run.specs.declared.bounded.BoundedMode.TheVariants.{Upper, Lower, Escape, Lossy}
+use Rattle.ascii_run.specs.declared.bounded.BoundedMode.TheVariants.{Upper, Lower, Escape}
 use Rattle.ascii_run.specs.Modes.Json.{json_code, json_text}
 use Rattle.ascii_run.specs.Modes.Lines.{ShowsLines, with_line_feed}
-use Rattle.ascii_run.specs.Modes.Lossy.{lossy_text}
 
 -- whether the mode takes all bytes, and not an ASCII text alone
 abbrev pub takes_all : BoundedMode → Bool
 takes_all Escape = true
-takes_all Lossy = true
 takes_all other = false
 
 -- the bytes are an input of the mode: if it does not take all bytes, they are ASCII
@@ -29,7 +27,7 @@ IsInput mode bytes = takes_all mode ≡ false → IsAscii bytes
 
 -- `output` is the output of the mode for a whole input: the text; the body of each line and LF;
 -- what `Caret` shows of each code; the compact JSON string; the upper or the lower image; what std
--- writes of each byte escaped; what `Lossy` shows of each byte
+-- writes of each byte escaped
 abbrev pub IsWholeOutput : BoundedMode → List ℕ → List ℕ → Type 0
 IsWholeOutput Copy text output = output ≡ text
 IsWholeOutput Lines text output =
@@ -39,7 +37,6 @@ IsWholeOutput Json text output = output ≡ json_text text
 IsWholeOutput Upper text output = output ≡ map upper_image text
 IsWholeOutput Lower text output = output ≡ map lower_image text
 IsWholeOutput Escape text output = output ≡ flat_map escape_ascii text
-IsWholeOutput Lossy text output = output ≡ flat_map lossy_text text
 
 -- `output` is what is written of a text after which another error ends the input: the output of the
 -- mode, except that `Json` is without the last double quote, so that nobody takes it for the whole
@@ -130,7 +127,6 @@ stream Json = by_code (codes "\"") json_code
 stream Upper = by_image upper_image
 stream Lower = by_image lower_image
 stream Escape = by_code [] escape_ascii
-stream Lossy = by_code [] lossy_text
 
 -- what is written of a text before more is read, the output of a whole text, and that of a text
 -- after which an error ends the input

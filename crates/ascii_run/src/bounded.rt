@@ -2,7 +2,7 @@
 //!
 //! It holds one chunk of the input and one output buffer, and makes all allocations before the first read. It works
 //! over any `Source` and `Sink`. Modes that need the whole text, such as `Mode::Tac`, are modes of `engine` only; the
-//! change of case, `Escape` and `Lossy` are modes of this engine only.
+//! change of case and `Escape` are modes of this engine only.
 //!
 //! If an error ends the input, the output for the text before it has been written: the output of the mode, where for
 //! `Lines` an open line is closed, and for `Json` the string is left open, so that nobody takes it for the whole.
@@ -42,8 +42,6 @@ pub enum BoundedMode {
     Lower,
     /// Each byte as `u8::escape_ascii` of std writes it. The input may have any bytes.
     Escape,
-    /// Each byte; one above 127 as `?`. The input may have any bytes.
-    Lossy,
 }
 
 /// The table of the modes: for each it passes its variant and its name to a macro.
@@ -58,7 +56,6 @@ macro_rules! modes {
             Upper "upper";
             Lower "lower";
             Escape "escape";
-            Lossy "lossy";
         }
     };
 }
@@ -92,7 +89,7 @@ macro_rules! list {
 impl BoundedMode {
     /// Returns all modes.
     ///
-    ///     BoundedMode::all() // [Copy, Lines, Caret, Json, Upper, Lower, Escape, Lossy]
+    ///     BoundedMode::all() // [Copy, Lines, Caret, Json, Upper, Lower, Escape]
     pub fn all() -> &'static [BoundedMode]
         ensures { (mode : BoundedMode) → Contains result.now mode }
     {
@@ -102,7 +99,7 @@ impl BoundedMode {
     /// Returns the name of the mode: that of its variant, in lower case.
     ///
     ///     BoundedMode::Lines.name() // "lines"
-    ///     BoundedMode::from_name(BoundedMode::Lossy.name()) // Some(Lossy)
+    ///     BoundedMode::from_name(BoundedMode::Escape.name()) // Some(Escape)
     pub fn name(self) -> &'static str
         ensures { result.now ≡ bounded_name self }
     {
@@ -125,7 +122,7 @@ impl BoundedMode {
     fn takes_all(self) -> bool
         ensures { result ≡ takes_all self }
     {
-        matches!(self, BoundedMode::Escape | BoundedMode::Lossy)
+        self == BoundedMode::Escape
     }
 }
 
@@ -135,8 +132,8 @@ const CHUNK: usize = 131_072;
 /// Reads an input of any length to its end and writes the output of the mode as it reads, or
 /// returns why it stopped. After `NotAscii`, `TooLong` and `Read` the writer has taken the output of
 /// the bytes before, with the last line of `Lines` closed and the string of `Json` left open; after
-/// `Write` a prefix of it; after `Memory` nothing was read or written. `Escape` and `Lossy` take all
-/// bytes, so they never return `NotAscii`.
+/// `Write` a prefix of it; after `Memory` nothing was read or written. `Escape` takes all bytes, so
+/// it never returns `NotAscii`.
 ///
 /// Condition: fewer than `u64::MAX` calls of the reader and of the writer have failed.
 ///

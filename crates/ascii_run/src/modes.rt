@@ -14,7 +14,6 @@ mod ends;
 pub(crate) mod escape;
 pub(crate) mod json_string;
 pub(crate) mod lines;
-pub(crate) mod lossy;
 pub(crate) mod mapped;
 mod tac;
 

@@ -11,7 +11,6 @@ use crate::modes::caret::Caret;
 use crate::modes::escape::Escape;
 use crate::modes::json_string::{Escapes, json_string};
 use crate::modes::lines::put_lines;
-use crate::modes::lossy::Lossy;
 use crate::modes::mapped::put_mapped;
 use ascii::{bytes, kernels};
 use ascii_devices::{BufferedSink, Sink};
@@ -32,7 +31,6 @@ pub(crate) fn streamed_size(mode: BoundedMode, length: usize) -> usize {
         BoundedMode::Lines => length.saturating_add(1),
         BoundedMode::Caret => length.saturating_mul(2),
         BoundedMode::Escape => length.saturating_mul(4),
-        BoundedMode::Lossy => length,
         BoundedMode::Json if length <= SHORT => 0,
         BoundedMode::Json => length.saturating_mul(6).saturating_add(2),
     }
@@ -101,7 +99,6 @@ impl<A: Allocator> Streamed<A> {
             BoundedMode::Lines => return put_lines(before, part, buffer, writer),
             BoundedMode::Caret => return put_mapped(&Caret, part, buffer, writer),
             BoundedMode::Escape => return put_mapped(&Escape, part, buffer, writer),
-            BoundedMode::Lossy => return put_mapped(&Lossy, part, buffer, writer),
             BoundedMode::Json => return put_mapped(&self.escapes, part, buffer, writer),
             BoundedMode::Upper => kernels::upper_in_place(part),
             BoundedMode::Lower => kernels::lower_in_place(part),

@@ -142,8 +142,7 @@ fn bounded_mode_of(mode: u8) -> BoundedMode {
         3 => BoundedMode::Json,
         4 => BoundedMode::Upper,
         5 => BoundedMode::Lower,
-        6 => BoundedMode::Escape,
-        _ => BoundedMode::Lossy,
+        _ => BoundedMode::Escape,
     }
 }
 

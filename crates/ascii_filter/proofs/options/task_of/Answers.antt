@@ -1,9 +1,8 @@
-use Rattle.std.proofs.Common.{rules, ◌≡◌, ℕ, List, inl, inr, refl}
+use Rattle.std.proofs.Common.{rules, ℕ, List, inl, inr, refl}
 use Rattle.std.specs.Prelude.{codes, ◌≢◌}
-use Rattle.ascii_filter.specs.Options.{IsOtherOf}
+use Rattle.ascii_filter.specs.Options.{IsModeName, IsOtherOf, TakesNoOther}
 use Rattle.ascii_filter.specs.declared.options.Other.{Other}
 use Rattle.ascii_filter.specs.declared.options.Other.TheVariants.{Escape, Replace, Stop}
-use Rattle.ascii_run.specs.Names.{IsBoundedName}
 use Rattle.ascii_filter.proofs.options.task_of.Goals as goal
 
 -- a word names one thing
@@ -13,14 +12,14 @@ not_stop word Stop is other stop = other refl
 not_stop word Replace is other stop = stop.0 is
 not_stop word Escape is other stop = stop.1 is
 
-pub returns-then-ne : goal.returns-then-ne
-returns-then-ne c =
-    let mode : c.args.options.mode.now ≡ codes "check" = search rules in
+pub returns-then-takes_no_other : goal.returns-then-takes_no_other
+returns-then-takes_no_other c =
     let other : c.from_name-other.result ≢ Stop = search rules in
-    inr (inl (refl, mode, not_stop _ _ c.from_name-other.ensures other))
+    let takes : TakesNoOther c.args.options.mode.now = search rules in
+    inr (inl (refl, takes, not_stop _ _ c.from_name-other.ensures other))
 
 pub returns-in_default : goal.returns-in_default
 returns-in_default c =
     let mode : c.args.options.mode.now ≢ codes "check" = search rules in
-    let none : ¬ (IsBoundedName c.args.options.mode.now) = search rules in
+    let none : ¬ (IsModeName c.args.options.mode.now) = search rules in
     inl (refl, mode, none)
