@@ -26,11 +26,22 @@ fn trimmed(text: &[u8], (start, end): Part, is: fn(u8) -> bool) -> Part {
     (start, end)
 }
 
+/// Where a piece of a text is in it.
+fn place_of(text: &[u8], piece: &[u8]) -> Part {
+    let start = piece.as_ptr() as usize - text.as_ptr() as usize;
+    (start, start + piece.len())
+}
+
 /// The n-th of the longest runs without digits, counted from 0.
 fn word_at(text: &[u8], (start, end): Part, n: usize) -> Option<Part> {
     let word = text[start..end].split(u8::is_ascii_digit).filter(|word| !word.is_empty()).nth(n)?;
-    let start = word.as_ptr() as usize - text.as_ptr() as usize;
-    Some((start, start + word.len()))
+    Some(place_of(text, word))
+}
+
+/// The n-th line, counted from 0.
+fn line_at(text: &[u8], (start, end): Part, n: usize) -> Option<Part> {
+    let line = std::str::from_utf8(&text[start..end]).expect("ASCII").lines().nth(n)?;
+    Some(place_of(text, line.as_bytes()))
 }
 
 /// What is between quotes at the start of a part, and what comes after it.
@@ -60,7 +71,7 @@ fn part_by(text: &[u8], part: Part, step: Step, prefix: &[u8]) -> Result<Part, O
         7 => Ok((digits, end)),
         8 => Ok(quoted_parts(text, part, step.code, b'\\')?.0),
         9 => Ok(quoted_parts(text, part, step.code, b'\\')?.1),
-        10 | 21 => (found == Some(start)).then_some((start + 1, end)).ok_or(NOTHING),
+        10 | 22 => (found == Some(start)).then_some((start + 1, end)).ok_or(NOTHING),
         11 => (start < digits).then_some((start, digits)).ok_or(NOTHING),
         12 => (start < digits).then_some((digits, end)).ok_or(NOTHING),
         13 => Ok((start, counted.ok_or(NOTHING)?)),
@@ -70,6 +81,7 @@ fn part_by(text: &[u8], part: Part, step: Step, prefix: &[u8]) -> Result<Part, O
         17 => Ok(trimmed(text, part, |byte| byte.is_ascii_digit())),
         19 => Ok((start, digit.ok_or(NOTHING)?)),
         20 => Ok((digit.ok_or(NOTHING)? + 1, end)),
+        21 => line_at(text, part, step.at).ok_or(NOTHING),
         _ => (start < digits && digits - start <= step.at).then_some((digits, end)).ok_or(NOTHING),
     }
 }
@@ -77,7 +89,7 @@ fn part_by(text: &[u8], part: Part, step: Step, prefix: &[u8]) -> Result<Part, O
 pub fn parts(random: &mut Random, asked: &mut Asked) {
     let text = random.text();
     let (mut texts, mut steps) = (Vec::new(), Vec::new());
-    for kind in random.script(22) {
+    for kind in random.script(23) {
         let (code, at) = (random.code_of(&text), random.place(text.len() / 2));
         let start = texts.len();
         texts.extend(random.needle(&text));

@@ -1,22 +1,24 @@
 -- The text between two positions of a text, and what it starts and ends with.
 use Rattle.std.proofs.Common.{◌≡◌, ◌≤◌, ◌↔◌, ℕ, ◌+◌, ◌-◌, List, [], ◌∷◌, ◌++◌, length, drop, arith, ap}
 use Rattle.std.proofs.Common.{◌∙◌, append_assoc, drop-drop, get_or, length-append, length-drop, subst}
-use Rattle.std.proofs.Common.{take, take-append-drop}
-use Rattle.std.specs.List.{flat_map, slice_range}
+use Rattle.std.proofs.Common.{refl, take, take-append-drop}
+use Rattle.std.specs.List.{All, flat_map, slice_range}
 use Rattle.std.proofs.lemmas.Grind.{common_steps}
 use Rattle.std.proofs.lemmas.List.{drop_more, flat_map_more, get_or-take}
 use Rattle.std.proofs.lemmas.List.{length-take, length-take-le, take_all}
-use Rattle.std.proofs.lemmas.List.Elements.{All-from_get_or}
+use Rattle.std.proofs.lemmas.List.Elements.{All-drop, All-from_get_or, All-head, All-map}
 use Rattle.std.proofs.lemmas.List.Folds.{drop_split}
 use Rattle.std.proofs.Math.Seq.{drop-append_seam}
 use Rattle.ascii.specs.Bytes.{IsFirstOf}
+use Rattle.ascii.specs.Parts.{WithStart}
 use Rattle.ascii.specs.Placed.{HasAt}
 use Rattle.ascii.specs.Search.{EndsWith, StartsWith}
 use Rattle.ascii.specs.View.{text_of}
+use Rattle.ascii.specs.declared.ascii_str.AsciiStr.{AsciiStr}
 use Rattle.ascii.proofs.CutLemmas.{suffix_fits}
 use Rattle.ascii.proofs.PlacedLemmas.{has_at}
 use Rattle.ascii_formats.specs.declared.parts.Part.{Part}
-use Rattle.ascii_formats.specs.Parts.{IsCutBy, IsFollowed, part_text}
+use Rattle.ascii_formats.specs.Parts.{IsCutBy, IsFollowed, in_whole, part_text, parts_of}
 
 -- all of a text
 pub whole_range : (text : List ℕ) → slice_range text 0 (length text) ≡ text
@@ -86,6 +88,16 @@ rest_range part rest ends =
 pub part_is_at : (part : Part) → HasAt (text_of part.whole) part.start (part_text part)
 unfolding part_text
 part_is_at part = grind (arith, length_range (text_of part.whole) part.start part.end)
+
+-- a part that was cut off another is a part of its whole
+pub part_whole : (part item : Part) (spans : List (WithStart (List ℕ)))
+    (front rest : List (AsciiStr × WithStart (List ℕ)))
+    → parts_of part spans ≡ front ++ in_whole item ∷ rest → item.whole ≡ part.whole
+part_whole part item spans front rest cut =
+    let Is : AsciiStr × WithStart (List ℕ) → Type 0 = λ it. it.0 ≡ part.whole in
+    let all = subst (All Is) cut (All-map Is _ spans (λ k d low. refl)) in
+    All-head Is (in_whole item) rest
+    (subst (All Is) (drop-append_seam front _) (All-drop Is (length front) _ all))
 
 -- a text ends with what comes after a cut of it
 pub after_cut : (before between after text : List ℕ) → before ++ (between ++ after) ≡ text

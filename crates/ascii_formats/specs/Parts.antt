@@ -1,6 +1,6 @@
 -- Parts of a text, which keep their place in it.
 use Rattle.std.specs.Prelude.{◌≡◌, ◌≢◌, ◌<◌, ◌≤◌, ◌⊎◌, ⊤, ℕ, ◌+◌, List, [], ◌∷◌, ◌++◌, codes}
-use Rattle.std.specs.Prelude.{decimal, length, map, slice_range, take}
+use Rattle.std.specs.Prelude.{MatchOption, Option, decimal, length, map, slice_range, take}
 use Rattle.std.specs.List.{All}
 use Rattle.ascii.specs.ByClass.{IsOutside}
 use Rattle.ascii.specs.Class.{IsDigit}
@@ -18,8 +18,11 @@ use Rattle.ascii_formats.specs.declared.quotes.QuoteError.{QuoteError}
 use Rattle.ascii_formats.specs.declared.quotes.QuoteError.TheVariants.{NoQuote, NotClosed}
 use Rattle.ascii_formats.specs.Numbers.{IsFaultIn, NumberRange}
 use Rattle.ascii_formats.specs.Quotes.{IsQuoteFault, StartsQuoted}
+use Rattle.ascii.specs.Lines.{Line}
 use Rattle.ascii.specs.Parts.{WithStart}
+use Rattle.ascii.specs.Placed.{body_in}
 use Rattle.ascii.specs.Search.{IsCut}
+use Rattle.ascii.specs.Spans.{LineSpansOf}
 use Rattle.ascii.specs.Trim.{IsSpan, TrimsEnd, TrimsStart}
 use Rattle.ascii.specs.View.{debug_text, text_of}
 
@@ -145,12 +148,27 @@ abbrev pub parts_of : Part → List (WithStart (List ℕ)) → List (AsciiStr ×
 parts_of part spans = map
     (λ span. (part.whole, record { start = part.start + span.start; item = span.item })) spans
 
+-- `parts` are the lines of the text of `part` without their endings, each with the whole of `part`
+-- and its start in that
+pub record AreLinesOf (part : Part) (parts : List (AsciiStr × WithStart (List ℕ))) : Type 0 where
+  pub spans : List (WithStart Line)
+  pub lines : LineSpansOf 0 (part_text part) spans
+  pub are : parts ≡ parts_of part (map body_in spans)
+
 -- the `{:?}` output of `part`: its start, its end and its text
 abbrev pub part_debug : Part → List ℕ
 part_debug part = decimal part.start
     ++ (codes ".." ++ (decimal part.end ++ (codes " " ++ debug_text (part_text part))))
 
 -- ---- only private calls cite the following
+
+-- a step that yields the start and the length of the first of the texts and leaves the others, or
+-- yields `None` if there are none
+abbrev pub YieldsPlace
+    : {S : Type 0} → (S → List (WithStart (List ℕ))) → S → Option (ℕ × ℕ) → S → Type 0
+YieldsPlace texts old result new = MatchOption result ((texts old ≡ []) × (texts new ≡ []))
+    (λ place. (text : List ℕ) × (length text ≡ place.1)
+    × (texts old ≡ record { start = place.0; item = text } ∷ texts new))
 
 -- `new` is a part of the same whole as `old`, starts where it does and ends at `to`
 pub record IsFrontTo (to : ℕ) (old new : Part) : Type 0 where

@@ -1,25 +1,19 @@
 -- One more line of a settings file.
-use Rattle.std.proofs.Common.{◌≡◌, ◌∙◌, ◌⊎◌, List, [], ◌∷◌, ◌++◌, Err, Ok, Result, ap, inl, inr}
-use Rattle.std.proofs.Common.{refl, subst, sym}
-use Rattle.std.specs.Prelude.{IsErrAnd, MatchResult}
+use Rattle.std.proofs.Common.{◌≡◌, ◌∙◌, ◌⊎◌, List, [], ◌∷◌, ◌++◌, Err, Ok, Result, ap, inl, inr, map}
+use Rattle.std.proofs.Common.{subst, sym}
+use Rattle.std.specs.Prelude.{IsErrAnd, MatchResult, ℕ}
 use Rattle.std.specs.List.{AllZip, fold}
 use Rattle.std.proofs.lemmas.List.Sums.{fold_push}
 use Rattle.ascii.proofs.ListLemmas.{All-from_zip}
+use Rattle.ascii.specs.Parts.{WithStart}
+use Rattle.ascii.specs.declared.ascii_str.AsciiStr.{AsciiStr}
+use Rattle.ascii_formats.specs.Parts.{AreLinesOf, in_whole}
 use Rattle.ascii_formats.specs.declared.parts.Part.{Part}
-use Rattle.examples.specs.Entries.{AreFirstLines, AreSidesAt, IsFirstFault, IsFirstLine}
-use Rattle.examples.specs.Entries.{IsLineError, ReadsLine, after_line}
+use Rattle.examples.specs.Entries.{IsFirstFault, IsLineError, ReadsLine, after_line}
 use Rattle.examples.specs.declared.ini.Entry.{Entry}
 use Rattle.examples.specs.declared.ini.IniError.{IniError}
 use Rattle.examples.specs.declared.ini.IniError.TheVariants.{Memory}
 use Rattle.examples.specs.declared.ini.Parsed.{Parsed}
-
--- the first line of the rest is one of the first lines
-pub one_more_line : (part rest line after : Part) (lines : List Part)
-    → AreFirstLines part lines rest → AreSidesAt 10 rest (line, after) → AreFirstLines part (lines ++ line ∷ []) after
-one_more_line part rest line after [] same cut =
-    (after, subst (λ whole. AreSidesAt 10 whole (line, after)) (sym same) cut, refl)
-one_more_line part rest line after (first ∷ lines) cuts cut =
-    (cuts.0, cuts.1, one_more_line cuts.0 rest line after lines cuts.2 cut)
 
 -- the state after what it says
 pub one_more_said : (start state next : Part × List Entry) (parsed : List Parsed) (said : Parsed)
@@ -29,17 +23,17 @@ one_more_said start state next parsed said is more = fold_push after_line start 
     ∙ (ap (λ (before : Part × List Entry). after_line before said) is ∙ sym more)
 
 -- the error of a line after lines that are right
-pub first_fault : (all rest line : Part) (before : List Part) (parsed : List Parsed)
-    (error : IniError) → AreFirstLines all before rest
-    → AllZip (λ line said. ReadsLine line (Ok said)) before parsed → IsFirstLine rest line
+pub first_fault : (all line : Part) (before : List Part)
+    (after : List (AsciiStr × WithStart (List ℕ))) (parsed : List Parsed) (error : IniError)
+    → AreLinesOf all (map in_whole before ++ in_whole line ∷ after)
+    → AllZip (λ line said. ReadsLine line (Ok said)) before parsed
     → IsLineError line error → (error ≡ Memory) ⊎ IsFirstFault all error
-first_fault all rest line before parsed error cut each first (inl memory) = inl memory
-first_fault all rest line before parsed error cut each first (inr fault) = inr (record {
+first_fault all line before after parsed error cut each (inl memory) = inl memory
+first_fault all line before after parsed error cut each (inr fault) = inr (record {
   before = before;
-  rest = rest;
   line = line;
+  after = after;
   cut = cut;
-  first = first;
   right = All-from_zip (λ line said. ReadsLine line (Ok said)) before parsed each;
   fault = fault;
 })

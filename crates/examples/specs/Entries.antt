@@ -1,16 +1,18 @@
 -- The lines of a settings file, and the entries that they say.
 use Rattle.std.specs.Prelude.{◌≡◌, ◌≢◌, ◌⊎◌, ℕ, List, [], ◌∷◌, ◌++◌, ⊤, Err, MatchResult, Ok, codes}
-use Rattle.std.specs.Prelude.{◌+◌, length}
+use Rattle.std.specs.Prelude.{◌+◌, length, map}
 use Rattle.std.specs.List.{All, AllZip, Contains, fold}
 use Rattle.std.specs.declared.alloc.Global.{Global}
 use Rattle.std.specs.declared.result.Result.{Result}
 use Rattle.std.specs.declared.vec.Vec.{Vec}
 use Rattle.ascii.specs.ByClass.{IsOutside}
 use Rattle.ascii.specs.Class.{IsWhitespace}
+use Rattle.ascii.specs.Parts.{WithStart}
 use Rattle.ascii.specs.Search.{IsCutAt, IsPrefix, StartsWith}
 use Rattle.ascii.specs.View.{text_of}
 use Rattle.ascii.specs.declared.ascii_str.AsciiStr.{AsciiStr}
-use Rattle.ascii_formats.specs.Parts.{AreSidesOf, IsCutBy, IsTrimmed, part_text}
+use Rattle.ascii_formats.specs.Parts.{AreLinesOf, AreSidesOf, IsCutBy, IsTrimmed, in_whole}
+use Rattle.ascii_formats.specs.Parts.{part_text}
 use Rattle.ascii_formats.specs.declared.parts.Part.{Part}
 use Rattle.examples.specs.declared.ini.IniError.{IniError}
 use Rattle.examples.specs.declared.ini.IniError.TheVariants.{At, Memory}
@@ -37,11 +39,6 @@ IsErrorIn text (At part what) = part.whole ≡ text
 IsErrorIn text Memory = ⊤
 
 -- ---- one line
-
--- `sides` are the parts of `part` before and after its first code `on`
-pub record AreSidesAt (on : ℕ) (part : Part) (sides : Part × Part) : Type 0 where
-  pub cut : IsCutAt on (part_text part) (part_text sides.0) (part_text sides.1)
-  pub place : AreSidesOf 1 part sides
 
 -- the code may be between a key and its value: it is `=` or `:`
 abbrev pub IsDelimiter : ℕ → Type 0
@@ -101,17 +98,6 @@ pub record IsFront (text : AsciiStr) (n : ℕ) (part : Part) : Type 0 where
   pub start : part.start ≡ 0
   pub end : part.end ≡ n
 
--- `lines` are the first lines of `part`, each with a line feed after it, and `rest` follows
-abbrev pub AreFirstLines : Part → List Part → Part → Type 0
-AreFirstLines part [] rest = part ≡ rest
-AreFirstLines part (line ∷ lines) rest =
-    (after : Part) × AreSidesAt 10 part (line, after) × AreFirstLines after lines rest
-
--- `line` is the first line of `rest`: it ends before the first line feed, or where `rest` ends
-abbrev pub IsFirstLine : Part → Part → Type 0
-IsFirstLine rest line = ((after : Part) × AreSidesAt 10 rest (line, after))
-    ⊎ ((line ≡ rest) × ¬ (Contains (part_text rest) 10))
-
 -- the section and the entries after a line: a section is that of the entries after it, and a
 -- setting is one entry more
 abbrev pub after_line : Part × List Entry → Parsed → Part × List Entry
@@ -124,20 +110,17 @@ after_line before (Setting key value) =
 -- names, or in `none` if there is no such line
 pub record AreEntries (all none : Part) (entries : List Entry) : Type 0 where
   pub lines : List Part
-  pub last : Part
-  pub cut : AreFirstLines all lines last
-  pub no_more : ¬ (Contains (part_text last) 10)
+  pub cut : AreLinesOf all (map in_whole lines)
   pub parsed : List Parsed
-  pub each : AllZip (λ line said. ReadsLine line (Ok said)) (lines ++ last ∷ []) parsed
+  pub each : AllZip (λ line said. ReadsLine line (Ok said)) lines parsed
   pub are : (fold after_line (none, []) parsed).1 ≡ entries
 
 -- `error` is that of a line of `all`, and no line before it has one
 pub record IsFirstFault (all : Part) (error : IniError) : Type 0 where
   pub before : List Part
-  pub rest : Part
   pub line : Part
-  pub cut : AreFirstLines all before rest
-  pub first : IsFirstLine rest line
+  pub after : List (AsciiStr × WithStart (List ℕ))
+  pub cut : AreLinesOf all (map in_whole before ++ in_whole line ∷ after)
   pub right : All (λ line. (said : Parsed) × ReadsLine line (Ok said)) before
   pub fault : ReadsLine line (Err error)
 

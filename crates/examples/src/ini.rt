@@ -81,13 +81,10 @@ pub fn read_entries<'a>(alloc: Global, text: AsciiStr<'a>) -> Result<Vec<Entry<'
         (IsErrorIn text.entry) }
 {
     let mut entries = Vec::new(alloc);
-    let mut rest = Part::of(text);
-    let (mut section, _) = rest.split_at(0);
-    'lines: while let Some((line, after)) = rest.split_once(AsciiChar::LineFeed) {
+    let (mut section, _) = Part::of(text).split_at(0);
+    for line in Part::of(text).lines() {
         section = add_line(&mut entries, section, line)?;
-        rest = after;
     }
-    add_line(&mut entries, section, rest)?;
     Ok(entries)
 }
 
@@ -97,9 +94,9 @@ fn add_line<'a>(
     section: Part<'a>,
     line: Part<'a>,
 ) -> Result<Part<'a>, IniError<'a>>
-    requires whole { section.whole ≡ line.whole }
-    requires entries { All (IsEntryOf line.whole) entries.old.items }
-    ensures parts { let whole = line.entry.whole in MatchResult result
+    requires whole { line.whole ≡ section.whole }
+    requires entries { All (IsEntryOf section.whole) entries.old.items }
+    ensures parts { let whole = section.entry.whole in MatchResult result
         (λ next. (next.whole ≡ whole) × All (IsEntryOf whole) entries.new.items)
         (IsErrorIn whole) }
     ensures line { MatchResult result

@@ -59,6 +59,7 @@ fn part_by<'a>(part: Part<'a>, step: Step, texts: AsciiStr) -> Result<Part<'a>, 
         18 => Ok(part.take::<Digit>(step.at).ok().ok_or(NOTHING)?.1),
         19 => Ok(part.split_once_by::<Digit>().ok_or(NOTHING)?.0),
         20 => Ok(part.split_once_by::<Digit>().ok_or(NOTHING)?.1),
+        21 => part.lines().nth(step.at).ok_or(NOTHING),
         _ => part.expect(ch).ok().ok_or(NOTHING),
     }
 }

@@ -1,4 +1,4 @@
-use Rattle.std.proofs.Common.{◌≡◌, inr, rules}
+use Rattle.std.proofs.Common.{◌≡◌, inr, refl, rules}
 use Rattle.std.proofs.lemmas.List.Elements.{All-push}
 use Rattle.examples.specs.Entries.{IsEntryOf, IsLineError}
 use Rattle.examples.proofs.EntriesLemmas.{fails_with}
@@ -11,10 +11,10 @@ returns-in_err-read_line-clause-line c =
 
 pub returns-in-Ok-clause-parts : goal.returns-in-Ok-clause-parts
 returns-in-Ok-clause-parts c =
-    let text = c.args.line.whole in
+    let text = c.args.section.whole in
     let (key, value) : (c.in-Setting.key.whole ≡ text) × (c.in-Setting.value.whole ≡ text) =
     search rules in (
-      c.requires.whole,
+      refl,
       rw c.in-Ok.ensures.items (All-push (IsEntryOf text) _ _ c.requires.entries
-          (record { section = c.requires.whole; key = key; value = value })),
+          (record { section = refl; key = key; value = value })),
     )
