@@ -1,13 +1,19 @@
--- What counts are after one more text.
-use Rattle.std.proofs.Common.{◌≡◌, ◌∙◌, ℕ, zero, suc, ◌+◌, ◌≤◌, Bool, false, true, List, [], ◌∷◌}
-use Rattle.std.proofs.Common.{◌++◌, Some, ⊎_elim, add-one, add-zero, cond, length, refl, sym}
-use Rattle.std.proofs.Common.{unwrap_or}
+-- What counts are after one more text, and after the words of one more line.
+use Rattle.std.proofs.Common.{◌≡◌, ◌∙◌, ℕ, zero, suc, ◌+◌, ◌*◌, ◌^◌, ◌<◌, ◌≤◌, Bool, false, true, List, []}
+use Rattle.std.proofs.Common.{◌∷◌, ◌++◌, Err, Ok, OnOk, Result, Some, ⊎_elim, add-one, add-zero, ap, arith}
+use Rattle.std.proofs.Common.{cond, is_err, length, length-append, refl, sym, unwrap_or}
 use Rattle.std.specs.Cmp.{IsEquivalence}
 use Rattle.std.specs.List.{count_by}
-use Rattle.std.proofs.lemmas.Bool.{cases_Bool}
+use Rattle.std.proofs.lemmas.Bool.{cases_Bool, false≢true}
+use Rattle.std.proofs.lemmas.List.{append-nil}
+use Rattle.std.proofs.lemmas.List.Concat.{flat_map-append}
 use Rattle.std.proofs.lemmas.List.Sums.{count_by-le-length, sum_by-cons, sum_by_push}
-use Rattle.ascii_keys.specs.Maps.{Changes, Values}
-use Rattle.examples.specs.Tally.{CountsBy, some_times}
+use Rattle.ascii.specs.ByClass.{words_by}
+use Rattle.ascii.specs.Lines.{Line}
+use Rattle.ascii.specs.Spans.{WithStart}
+use Rattle.ascii.specs.Tests.{is_whitespace}
+use Rattle.ascii_keys.specs.Maps.{Changes, Entries, Values}
+use Rattle.examples.specs.Tally.{Counts, CountsBy, CountsWords, some_times, words_of}
 
 times_back : (n : ℕ) → unwrap_or (some_times n) 0 ≡ n
 times_back zero = refl
@@ -52,3 +58,35 @@ module _ (same : List ℕ → List ℕ → Bool) (laws : IsEquivalence same) whe
         rw (yes, ← count_same last text yes texts, ← before, ← read) (sym (times_more value)))
         (λ (no : same last text ≡ false). rw (no, is text, add-zero) refl)
         (cases_Bool (same last text)))
+
+-- ---- the words of lines
+
+-- what holds on `Ok` holds if there is no error
+pub at_ok : {T E : Type 0} (P : Type 0) (r : Result T E) → is_err r ≡ false → OnOk r P → P
+at_ok P (Ok _) sure holds = holds
+at_ok P (Err _) sure holds = absurd (false≢true (sym sure))
+
+-- the words of one more line come after those of the lines
+words_push : (lines : List (WithStart Line)) (line : WithStart Line)
+    → words_of (lines ++ line ∷ []) ≡ words_of lines ++ words_by is_whitespace line.item.body
+words_push lines line =
+    flat_map-append (λ one. words_by is_whitespace one.item.body) lines (line ∷ [])
+    ∙ ap (λ words. words_of lines ++ words) (append-nil (words_by is_whitespace line.item.body))
+
+-- if the words of one more line are counted too, those of the lines with it are
+pub counts_line : (lines : List (WithStart Line)) (line : WithStart Line) (new : Entries ℕ)
+    → length (words_of lines) ≤ 2 ^ 64 * length lines
+    → length (words_by is_whitespace line.item.body) < 2 ^ 64
+    → Counts (words_of lines ++ words_by is_whitespace line.item.body) new
+    → CountsWords (lines ++ line ∷ []) new
+    × (length (words_of (lines ++ line ∷ [])) ≤ 2 ^ 64 * length (lines ++ line ∷ []))
+counts_line lines line new within fits counted = rw (words_push lines line) (
+  counted,
+  omega (
+    arith,
+    within,
+    fits,
+    length-append (words_of lines) (words_by is_whitespace line.item.body),
+    length-append lines (line ∷ []),
+  ),
+)

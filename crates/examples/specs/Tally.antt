@@ -1,15 +1,22 @@
 -- How often texts occur.
 use Rattle.std.specs.Cmp.Lexicographic.{slice_cmp}
 use Rattle.std.specs.Fmt.{decimal}
-use Rattle.std.specs.List.{count_by}
+use Rattle.std.specs.List.{count_by, flat_map}
 use Rattle.std.specs.List.Sorted.{IsStrictlySortedBy}
 use Rattle.std.specs.Map.{keys_of}
 use Rattle.std.specs.Ordering.{nat_cmp}
-use Rattle.std.specs.Prelude.{◌≡◌, ℕ, Bool, List, [], ◌∷◌, ◌++◌, None, Option, Some, map, suc, zero}
+use Rattle.std.specs.Prelude.{◌≡◌, ℕ, ◌-◌, ◌*◌, ◌^◌, ◌≤◌, Bool, List, [], ◌∷◌, ◌++◌, None, Option}
+use Rattle.std.specs.Prelude.{Some, false, length, map, suc, zero}
 use Rattle.std.specs.Str.{bytes_eq}
+use Rattle.ascii.specs.ByClass.{words_by}
 use Rattle.ascii.specs.Case.{lower_image}
 use Rattle.ascii.specs.Lines.{Line, bodies}
+use Rattle.ascii.specs.Spans.{WithStart}
+use Rattle.ascii.specs.Tests.{is_whitespace}
 use Rattle.ascii_keys.specs.Maps.{Entries, Values, folded_value_at, same_folded, value_at}
+use Rattle.ascii_lines.specs.CollectedLines.{YieldsUntil}
+use Rattle.ascii_lines.specs.LineReader.{ReaderState}
+use Rattle.ascii_lines.specs.declared.line_reader.LineError.{LineError}
 
 -- a number of times, or `None` if it is 0
 abbrev pub some_times : ℕ → Option ℕ
@@ -26,6 +33,29 @@ CountsBy same texts counts =
 -- `counts` has the number of `words` that are equal to each text, ignoring ASCII case
 abbrev pub Counts : List (List ℕ) → Entries ℕ → Type 0
 Counts words counts = CountsBy same_folded words (folded_value_at counts)
+
+-- the words of `lines`, in order
+abbrev pub words_of : List (WithStart Line) → List (List ℕ)
+words_of lines = flat_map (λ line. words_by is_whitespace line.item.body) lines
+
+-- `counts` has the number of words of `lines` that are equal to each text, ignoring ASCII case
+abbrev pub CountsWords : List (WithStart Line) → Entries ℕ → Type 0
+CountsWords lines counts = Counts (words_of lines) counts
+
+-- `counts` are those of so few words that one more line of words leaves them below 2 ^ 128
+abbrev pub HasRoom : Entries ℕ → Type 0
+HasRoom counts = (words : List (List ℕ)) × Counts words counts × (length words ≤ 2 ^ 128 - 2 ^ 64)
+
+-- unless an allocation has failed, `counts` counts the words of `lines`, of which there are at most
+-- 2 ^ 64 for each line
+abbrev pub CountsUnlessFailed : Bool → List (WithStart Line) → Entries ℕ → Type 0
+CountsUnlessFailed has_failed lines counts = has_failed ≡ false
+    → CountsWords lines counts × (length (words_of lines) ≤ 2 ^ 64 * length lines)
+
+-- from the state `old` to the state `new` a reader returned some lines, up to the end or an error
+abbrev pub ReadsLines : ReaderState → ReaderState → Type 0
+ReadsLines old new = (lines : List (WithStart Line)) × (error : Option LineError)
+    × YieldsUntil old lines error new
 
 -- the line of a word: its count, a space, and the word in lower case
 abbrev pub count_line : List ℕ × ℕ → List ℕ
