@@ -241,6 +241,7 @@ FILTER = [
 OF_EXAMPLES = b"usage: examples events|head|host|ini|keys|lines|nmea|pager|paths|register|seen|spell|syslog|tally|tokens|uniq\n"
 LINES_OF_A_REGISTER = b"GET\nhello\r\nGET\nno\377ascii\nGET\nQUIT\nGET\n"
 REPLIES_OF_A_REGISTER = b"\nOK\nhello\nBAD\nhello\nBYE\n"
+GREETING = b"READY for lines of 4096 bytes\n"
 SPELLING = b"the cat's on a well-known mat\n\"The\tdog\", it's ON a mat --\n\n (cats)."
 HEAD = b"GET /a?b HTTP/1.1\r\nHost: a.example\r\nContent-Type: text/plain; CHARSET=utf-8\r\n%s\r\nbody"
 SETTINGS = b"; a comment\n[net]\nport = 80\n host:  a.example=b \n[disk]\npath =\n"
@@ -310,9 +311,9 @@ EXAMPLES = [
     Call("paths of a long name", ["paths"], b"a" * 4095 + b"\0" + b"-" * 4097, 0,
          b"the line or part at index 4096 is longer than the buffer\n"),
     Call("register", ["register"], LINES_OF_A_REGISTER, 0, REPLIES_OF_A_REGISTER, b"Closed\n"),
-    Call("events", ["events"], LINES_OF_A_REGISTER, 0, REPLIES_OF_A_REGISTER, b"Some(Closed)\n"),
-    Call("events to the end of the input", ["events"], b"a\nGET", 0, b"OK\na\n", b"Some(EndOfInput)\n"),
-    Call("seen", ["seen"], b"b\na\r\nb\nB\n\nb\n\na", 0, b"b\na\nB\n\n"),
+    Call("events", ["events"], LINES_OF_A_REGISTER, 0, GREETING + REPLIES_OF_A_REGISTER, b"Some(Closed)\n"),
+    Call("events to the end of the input", ["events"], b"a\nGET", 0, GREETING + b"OK\na\n", b"Some(EndOfInput)\n"),
+    Call("seen", ["seen"], b"b\na\r\nb\nB\n\nb\nb\n\n\na\nb\na", 0, b"b\na\nB\n\nb\n\n\na\nb\n"),
     Call("seen of a byte above 127", ["seen"], b"a\na\nz\303\244\n", 0, b"the byte at index 5 is not ASCII\n"),
     Call("spell", ["spell"], SPELLING, 0, b"2:6: dog\n2:12: it's\n4:3: cats\n"),
     Call("spell of one line", ["spell"], b"the", 0, b"no text\n"),

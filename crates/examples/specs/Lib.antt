@@ -1,4 +1,5 @@
 pub mod Entries
+pub mod Greeting
 pub mod Head
 pub mod Log
 pub mod Paths
