@@ -285,6 +285,9 @@ TOKENS = b"""1:1: Word let
 1:22: Mark ;
 1:25: Comment  done
 2:2: Word y
+let
+x_1
+y
 """
 STORED = [(TOP / "crates/examples" / name).read_bytes() for name in ("stdin", "stdout")]
 EXAMPLES = [
@@ -315,7 +318,7 @@ EXAMPLES = [
     Call("events to the end of the input", ["events"], b"a\nGET", 0, GREETING + b"OK\na\n", b"Some(EndOfInput)\n"),
     Call("seen", ["seen"], b"b\na\r\nb\nB\n\nb\nb\n\n\na\nb\na", 0, b"b\na\nB\n\nb\n\n\na\nb\n"),
     Call("seen of a byte above 127", ["seen"], b"a\na\nz\303\244\n", 0, b"the byte at index 5 is not ASCII\n"),
-    Call("spell", ["spell"], SPELLING, 0, b"2:6: dog\n2:12: it's\n4:3: cats\n"),
+    Call("spell", ["spell"], SPELLING, 0, b"2:6: dog\n2:12: it's\n4:3: cats\ncats\ndog\nit's\n"),
     Call("spell of one line", ["spell"], b"the", 0, b"no text\n"),
     Call("syslog", ["syslog"], LOG, 0, MESSAGES),
     Call("syslog of no line", ["syslog"], b"", 0, b""),

@@ -18,9 +18,11 @@
 mod folded;
 mod map_iter;
 mod maps;
+mod set_iter;
 mod sets;
 
 pub use folded::{Folded, FoldedStr, FoldedString};
 pub use map_iter::{AsciiMapIter, FoldedMapIter};
 pub use maps::{AsciiMap, FoldedMap};
+pub use set_iter::{AsciiSetIter, FoldedSetIter};
 pub use sets::{AsciiSet, FoldedSet};

@@ -5,16 +5,17 @@
 //!     words.contains(AsciiStr::literal("the")) // true
 //!     words.contains(AsciiStr::literal("them")) // false
 //!
-//! A set costs what the map with the same keys costs. A contract sees it as the list of its texts: `is_member` says
-//! whether a text is one of them, and `Adds` what an insert changes.
+//! A set costs what the map with the same keys costs, and can be walked in order. A contract sees it as the list of its
+//! texts: `is_member` says whether a text is one of them, and `Adds` what an insert changes.
 
 ghost use Rattle.std.specs.Prelude.{◌≡◌, [], ℕ, IfOk, IsOk, IsTrue, List, OnErr, OnOk, not};
 ghost use Rattle.std.specs.Map.{keys_of};
 ghost use Rattle.std.specs.Set.{is_member};
 ghost use Rattle.ascii.specs.View.{text_of};
-ghost use Rattle.ascii_keys.specs.Sets.{Adds};
+ghost use Rattle.ascii_keys.specs.Sets.{Adds, WalksTexts};
 
 use crate::maps::{AsciiMap, FoldedMap};
+use crate::set_iter::{AsciiSetIter, FoldedSetIter};
 use ascii::AsciiStr;
 use std::alloc::{AllocError, Global};
 use std::marker::Model;
@@ -33,7 +34,7 @@ impl Model for FoldedSet {
 }
 
 impl FoldedSet {
-    ghost use Rattle.ascii_keys.specs.Maps.{same_folded};
+    ghost use Rattle.ascii_keys.specs.Maps.{folded_order, same_folded};
 
     /// Creates an empty set. Does not allocate.
     ///
@@ -77,6 +78,20 @@ impl FoldedSet {
     {
         Ok(self.map.insert(text, ())?.is_none())
     }
+
+    /// Returns an iterator over the texts, in the order of the texts in lower case, each as it was first
+    /// written. Does not allocate.
+    ///
+    ///     let mut words = FoldedSet::new(alloc);
+    ///     words.insert(AsciiStr::literal("b"))? // true
+    ///     words.insert(AsciiStr::literal("A"))? // true
+    ///     words.iter().next() // Some("A")
+    ///     FoldedSet::new(alloc).iter().next() // None
+    pub fn iter(&self) -> FoldedSetIter<'_>
+        ensures { WalksTexts folded_order self.now result }
+    {
+        FoldedSetIter::new(self.map.iter())
+    }
 }
 
 /// A set of texts, in the order of their bytes: an `AsciiMap` without values.
@@ -94,6 +109,8 @@ impl Model for AsciiSet {
 }
 
 impl AsciiSet {
+    ghost use Rattle.std.specs.Cmp.Lexicographic.{slice_cmp};
+    ghost use Rattle.std.specs.Ordering.{nat_cmp};
     ghost use Rattle.std.specs.Str.{bytes_eq};
 
     /// Creates an empty set. Does not allocate.
@@ -140,5 +157,17 @@ impl AsciiSet {
         }
         self.map.insert(text, ())?;
         Ok(true)
+    }
+    /// Returns an iterator over the texts, in the order of their bytes. Does not allocate.
+    ///
+    ///     let mut words = AsciiSet::new(alloc);
+    ///     words.insert(AsciiStr::literal("a"))? // true
+    ///     words.insert(AsciiStr::literal("B"))? // true
+    ///     words.iter().next() // Some("B")
+    ///     AsciiSet::new(alloc).iter().next() // None
+    pub fn iter(&self) -> AsciiSetIter<'_>
+        ensures { WalksTexts (slice_cmp nat_cmp) self.now result }
+    {
+        AsciiSetIter::new(self.map.iter())
     }
 }

@@ -1,7 +1,9 @@
 -- The tokens of a small language.
-use Rattle.std.specs.Prelude.{ℕ, ◌≡◌, ◌≢◌, ◌+◌, ◌<◌, ◌⊎◌, ◌++◌, ◌∷◌, [], List, ⊤, length}
+use Rattle.std.specs.Prelude.{ℕ, ◌≡◌, ◌≢◌, ◌||◌, ◌+◌, ◌<◌, ◌⊎◌, ◌++◌, ◌∷◌, [], List, ⊤, length}
 use Rattle.std.specs.Int.{IsInRange}
-use Rattle.std.specs.List.{All}
+use Rattle.std.specs.List.{All, flat_map}
+use Rattle.std.specs.Set.{is_member}
+use Rattle.std.specs.Str.{bytes_eq}
 use Rattle.ascii.specs.Class.{IsAlphanumeric, IsDigit, IsPunctuation, IsWhitespace}
 use Rattle.ascii.specs.declared.ascii_str.AsciiStr.{AsciiStr}
 use Rattle.ascii_formats.specs.Parts.{part_text}
@@ -71,7 +73,26 @@ IsErrorOf text (At part expected.Quoted) = (part.whole ≡ text)
 IsErrorOf text (At part other) = part.whole ≡ text
 IsErrorOf text Memory = ⊤
 
+-- the text of a token that is a word
+abbrev pub word_of : Kind → List ℕ → List (List ℕ)
+word_of Word body = body ∷ []
+word_of kind body = []
+
+-- the words among `tokens`, in order
+abbrev pub words_of : List Token → List (List ℕ)
+words_of tokens = flat_map (λ token. word_of token.kind (part_text token.part)) tokens
+
+-- `words` has the words among `tokens`, and nothing else
+abbrev pub HasWordsOf : List Token → List (List ℕ) → Type 0
+HasWordsOf tokens words =
+    (text : List ℕ) → is_member bytes_eq words text ≡ is_member bytes_eq (words_of tokens) text
+
 -- ---- cited by private functions only
+
+-- `new` has what `old` has and the words among `tokens`, and nothing else
+abbrev pub AddsWords : List (List ℕ) → List Token → List (List ℕ) → Type 0
+AddsWords old tokens new = (text : List ℕ) → is_member bytes_eq new text
+    ≡ (is_member bytes_eq (words_of tokens) text || is_member bytes_eq old text)
 
 -- `taken` is a token at the start of `part`, and what comes after it
 pub record IsTaken (part : Part) (taken : Token × Part) : Type 0 where

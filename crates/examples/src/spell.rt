@@ -1,12 +1,14 @@
 //! Prints each word of a text that is not in the first line of the input, ignoring ASCII case, with its line and its
-//! column. A word is what is between whitespace, without the punctuation at its ends.
+//! column; and then each of these words once, in order. A word is what is between whitespace, without the punctuation at
+//! its ends.
 #![tactic(auto)]
 
 ghost use Rattle.std.specs.List.{filter};
-ghost use Rattle.std.specs.Prelude.{◌≡◌, ◌++◌, ◌∷◌, [], IfOk, OnOk};
+ghost use Rattle.std.specs.Prelude.{◌≡◌, ◌++◌, ◌∷◌, [], IfOk, OnOk, map};
 ghost use Rattle.ascii.specs.ByClass.{words_by};
 ghost use Rattle.ascii.specs.Tests.{is_whitespace};
 ghost use Rattle.ascii.specs.View.{text_of};
+ghost use Rattle.ascii_formats.specs.Parts.{part_text};
 ghost use Rattle.examples.specs.Spelling.{AreUnknown, HasWords, is_unknown};
 
 use ascii::classes::{Punctuation, Whitespace};
@@ -57,6 +59,17 @@ fn push_unknown<'a>(
     Ok(())
 }
 
+/// Returns these words, each once, ignoring ASCII case, or an error if an allocation fails.
+pub fn unique_words(alloc: Global, words: &[Part<'_>]) -> Result<FoldedSet, AllocError>
+    ensures { IfOk result (HasWords (map part_text words.now)) }
+{
+    let mut unique = FoldedSet::new(alloc);
+    for word in words {
+        unique.insert(word.text())?;
+    }
+    Ok(unique)
+}
+
 pub fn main(rt: HostRuntime) -> io::Result<()> {
     let mut source = String::new(rt.alloc());
     rt.stdin().read_to_string(&mut source)?;
@@ -68,8 +81,13 @@ pub fn main(rt: HostRuntime) -> io::Result<()> {
         return println!(rt; "no text");
     };
     let known = read_words(rt.alloc(), list.text())?;
-    for word in &unknown_words(rt.alloc(), rest, &known)? {
+    let unknown = unknown_words(rt.alloc(), rest, &known)?;
+    for word in &unknown {
         println!(rt; "{}: {word}", word.line_and_column())?;
+    }
+    let unique = unique_words(rt.alloc(), &unknown)?;
+    for word in unique.iter() {
+        println!(rt; "{word}")?;
     }
     Ok(())
 }

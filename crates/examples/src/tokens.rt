@@ -1,19 +1,22 @@
 //! Prints the tokens of standard input, each with its line and column: words, numbers, quoted texts, comments after `#`
-//! and marks. A text with something else is reported with the place of its first fault.
+//! and marks; and then each of the words once, in order. A text with something else is reported with the place of its first
+//! fault.
 #![tactic(auto)]
 
 ghost use Rattle.std.specs.List.{flat_map};
-ghost use Rattle.std.specs.Prelude.{◌≡◌, ◌≢◌, [], All, IfErr, IfOk, MatchResult, length};
+ghost use Rattle.std.specs.Prelude.{◌≡◌, ◌≢◌, ◌∷◌, [], All, IfErr, IfOk, MatchResult, OnOk, length};
 ghost use Rattle.std.proofs.Common.{rules};
 ghost use Rattle.ascii.specs.View.{text_of};
 ghost use Rattle.ascii_formats.specs.Parts.{part_text};
-ghost use Rattle.examples.specs.Tokens.{AreLaid, IsErrorOf, IsTaken, IsTokenOf, token_text};
+ghost use Rattle.examples.specs.Tokens.{AddsWords, AreLaid, HasWordsOf, IsErrorOf, IsTaken};
+ghost use Rattle.examples.specs.Tokens.{IsTokenOf, token_text};
 
 use ascii::classes::{ByRanges, Digit, Punctuation, Ranges, Whitespace};
 use ascii::{AsciiChar, AsciiStr, text};
 use ascii_formats::AsciiStrExt;
 use ascii_formats::parts::{Expected, ParseError, Part, Taken};
-use std::alloc::Global;
+use ascii_keys::AsciiSet;
+use std::alloc::{AllocError, Global};
 use std::io::{self, Read};
 
 /// What a token is.
@@ -143,6 +146,27 @@ fn take_mark<'a>(text: Part<'a>) -> Taken<'a, Token<'a>>
     Err(ParseError::At(text, Expected::Named("a token")))
 }
 
+/// Returns the words among the tokens, each once, or an error if an allocation fails.
+pub fn unique_words(alloc: Global, tokens: &[Token<'_>]) -> Result<AsciiSet, AllocError>
+    ensures { IfOk result (HasWordsOf tokens.now) }
+{
+    let mut words = AsciiSet::new(alloc);
+    for token in tokens {
+        add_word(&mut words, *token)?;
+    }
+    Ok(words)
+}
+
+/// Adds the text of a token, if it is a word.
+fn add_word(words: &mut AsciiSet, token: Token<'_>) -> Result<(), AllocError>
+    ensures { OnOk result (AddsWords words.old (token.entry ∷ []) words.new) }
+{
+    if let Kind::Word = token.kind {
+        words.insert(token.part.text())?;
+    }
+    Ok(())
+}
+
 pub fn main(rt: HostRuntime) -> io::Result<()> {
     let mut source = String::new(rt.alloc());
     rt.stdin().read_to_string(&mut source)?;
@@ -157,6 +181,10 @@ pub fn main(rt: HostRuntime) -> io::Result<()> {
                     let place = token.part.line_and_column();
                     println!(rt; "{place}: {:?} {}", token.kind, token.part)?;
                 }
+            }
+            let words = unique_words(rt.alloc(), &tokens)?;
+            for word in words.iter() {
+                println!(rt; "{word}")?;
             }
             Ok(())
         }
