@@ -135,6 +135,18 @@ impl<V: Drop> AsciiMap<V> {
         self.entries.remove(key.as_str())
     }
 
+    /// Removes all keys and their values. Does not allocate.
+    ///
+    ///     let mut ports = AsciiMap::new(alloc);
+    ///     ports.insert(AsciiStr::literal("http"), 80)?;
+    ///     ports.clear();
+    ///     ports.len() // 0
+    pub fn clear(&mut self)
+        ensures { self.new ≡ [] }
+    {
+        self.entries.clear();
+    }
+
     /// Returns the number of keys that have a value.
     ///
     ///     let mut ports = AsciiMap::new(alloc);

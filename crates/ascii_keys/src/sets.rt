@@ -158,6 +158,18 @@ impl AsciiSet {
         self.map.insert(text, ())?;
         Ok(true)
     }
+
+    /// Removes all texts. Does not allocate.
+    ///
+    ///     let mut words = AsciiSet::new(alloc);
+    ///     words.insert(AsciiStr::literal("the"))? // true
+    ///     words.clear();
+    ///     words.contains(AsciiStr::literal("the")) // false
+    pub fn clear(&mut self)
+        ensures { self.new ≡ [] }
+    {
+        self.map.clear();
+    }
     /// Returns an iterator over the texts, in the order of their bytes. Does not allocate.
     ///
     ///     let mut words = AsciiSet::new(alloc);
