@@ -1,10 +1,10 @@
-//! Maps whose keys are texts, and sets of texts, by std's `BTreeMap` and `BTreeSet`.
+//! Maps whose keys are texts, and sets of texts, by std's `BTreeMap`.
 
 use super::{allocating, Kind};
 use crate::asked::{Answer, Asked, Failed, Needs};
 use crate::calls::{self, Step, Steps};
 use crate::random::Random;
-use std::collections::{BTreeMap, BTreeSet};
+use std::collections::BTreeMap;
 
 pub static KINDS: &[Kind] = &[
     allocating("maps of texts", |random, asked| {
@@ -28,7 +28,7 @@ type FoldedMap = BTreeMap<Vec<u8>, (Vec<u8>, usize)>;
 fn steps(random: &mut Random) -> Steps {
     let mut steps = Steps::default();
     let mut key = random.short_text();
-    for (at, kind) in random.script(6).into_iter().enumerate() {
+    for (at, kind) in random.script(7).into_iter().enumerate() {
         match random.below(3) {
             0 => key = random.other(&key),
             1 => key = random.short_text(),
@@ -54,7 +54,8 @@ pub fn ask_maps(texts: &[u8], steps: &[Step], asked: &mut Asked) {
 /// insertion needs.
 fn put_steps(texts: &[u8], steps: &[Step], failing: usize, want: &mut Answer) -> Vec<Needs> {
     let (mut map, mut folded, mut needs) = (Map::new(), FoldedMap::new(), Vec::new());
-    let mut sets = [BTreeSet::new(), BTreeSet::new()];
+    // A set has each text as it was first written.
+    let mut sets = [BTreeMap::new(), BTreeMap::new()];
     for step in steps {
         let key = &texts[step.start..step.end];
         // A map that knows the case copies each key, and one that ignores it only a new key. There may be room for a
@@ -70,12 +71,15 @@ fn put_steps(texts: &[u8], steps: &[Step], failing: usize, want: &mut Answer) ->
             needs.push(folded_copy);
         }
         let keys = [key.to_vec(), key.to_ascii_lowercase()];
-        for (set, key) in sets.iter_mut().zip(&keys).filter(|_| step.kind == 0) {
-            let fails = needs.len() == failing;
-            needs.push(if set.contains(key) { Needs::Nothing } else { copy });
-            if fails { want.put(Failed) } else { want.put(set.insert(key.clone())) }
+        for (set, same) in sets.iter_mut().zip(&keys).filter(|_| step.kind == 0) {
+            let (fails, is_there) = (needs.len() == failing, set.contains_key(same));
+            needs.push(if is_there { Needs::Nothing } else { copy });
+            if fails { want.put(Failed) } else { want.put(!is_there) }
+            if !fails { set.entry(same.clone()).or_insert(key); }
         }
-        want.all(sets.iter().zip(&keys).map(|(set, key)| set.contains(key)));
+        sets.iter().filter(|_| step.kind == 4).for_each(|set| want.all(set.values()));
+        if step.kind == 6 { sets[0].clear() }
+        want.all(sets.iter().zip(&keys).map(|(set, key)| set.contains_key(key)));
     }
     needs
 }
@@ -91,6 +95,7 @@ fn put_step(map: &mut Map, step: Step, key: Vec<u8>, fails: bool, want: &mut Ans
             *value
         })),
         4 => want.all(&*map),
+        6 => map.clear(),
         _ => want.put(map.contains_key(&key)),
     }
     want.put((map.len(), map.is_empty()));

@@ -17,8 +17,9 @@ pub static ROWS: &[Row] = &[
     }),
     ("a_walk_yields_each_key_as_it_was_first_written", |rows| {
         let added = NAMES.iter().map(|name| (ADD, *name));
+        let inserted = NAMES.iter().map(|name| (INSERT, *name));
         let walked = NAMES.iter().flat_map(|name| [(WALK, ""), (REMOVE, *name)]);
-        ask(rows, &added.chain(walked).collect::<Vec<_>>());
+        ask(rows, &added.chain(inserted).chain(walked).collect::<Vec<_>>());
     }),
     ("many_keys_have_their_values", |rows| {
         let keys: Vec<String> = (0..5_000).map(|number| number.to_string()).collect();
@@ -64,6 +65,7 @@ const REMOVE: u8 = 2;
 const ADD: u8 = 3;
 const WALK: u8 = 4;
 const HAS: u8 = 5;
+const CLEAR: u8 = 6;
 
 /// Steps as they are passed: their keys, one after the other, and each with its number.
 fn passed(steps: &[(u8, &str)]) -> Steps {
@@ -80,6 +82,8 @@ fn put_last(rows: &mut Rows) {
     let inserted = [(INSERT, "a"), (INSERT, "A"), (INSERT, "a")];
     let taken = [(GET, "a"), (GET, ""), (HAS, "A"), (REMOVE, "a"), (REMOVE, "a"), (HAS, "A")];
     ask(rows, &[&inserted[..], &taken].concat());
+    let cleared = [(INSERT, "b"), (CLEAR, "a"), (WALK, ""), (CLEAR, ""), (INSERT, "a"), (WALK, "")];
+    ask(rows, &[&inserted[..], &cleared].concat());
     let inserted = [(INSERT, "Host"), (INSERT, "Accept"), (INSERT, "HOST")];
     let taken = [(GET, "host"), (GET, "hos"), (REMOVE, "hOST"), (REMOVE, "Host")];
     ask(rows, &[&inserted[..], &taken].concat());

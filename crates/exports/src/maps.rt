@@ -10,7 +10,7 @@ use std::collections::{BTreeMap, HashMap};
 /// What steps over a map return, each with the length of the map: 0 inserts the number at the step's text, 1 gets, 2 removes,
 /// 3 adds the number to the one there, 4 yields all entries, and any other kind looks whether the key is there. First of a map
 /// in which keys differ by case, and then of one that ignores case. In that one 3 puts the number first if there is none. Then
-/// of two sets: 0 adds the text to both, and each step looks whether it is there.
+/// of two sets: 0 adds the text, 4 yields all texts, and each step looks whether it is there. 6 clears what differs by case.
 pub fn ask_maps(alloc: Global, texts: AsciiStr, steps: &[Step], answer: &mut Answer) {
     let (mut map, mut folded) = (AsciiMap::new(alloc), FoldedMap::new(alloc));
     let mut set = AsciiSet::new(alloc);
@@ -19,9 +19,18 @@ pub fn ask_maps(alloc: Global, texts: AsciiStr, steps: &[Step], answer: &mut Ans
         let key = step.text(texts);
         put_step(&mut map, *step, key, answer);
         put_folded_step(&mut folded, *step, key, answer);
-        if step.kind == 0 {
-            answer.put_result(set.insert(key));
-            answer.put_result(folded_set.insert(key));
+        match step.kind {
+            0 => {
+                answer.put_result(set.insert(key));
+                answer.put_result(folded_set.insert(key));
+            }
+            4 => {
+                for text in set.iter().chain(folded_set.iter()) {
+                    answer.put(text);
+                }
+            }
+            6 => set.clear(),
+            _ => (),
         }
         answer.put((set.contains(key), folded_set.contains(key)));
     }
@@ -43,6 +52,7 @@ fn put_step(map: &mut AsciiMap<usize>, step: Step, key: AsciiStr, answer: &mut A
                 answer.put((key, *value));
             }
         }
+        6 => map.clear(),
         _ => answer.put(map.get(key).is_some()),
     }
     answer.put((map.len(), map.is_empty()));
