@@ -26,22 +26,11 @@ fn trimmed(text: &[u8], (start, end): Part, is: fn(u8) -> bool) -> Part {
     (start, end)
 }
 
-/// Where a piece of a text is in it.
-fn place_of(text: &[u8], piece: &[u8]) -> Part {
+/// Where the n-th of some pieces of a text is, counted from 0.
+fn nth_of<'a>(text: &[u8], mut pieces: impl Iterator<Item = &'a [u8]>, n: usize) -> Option<Part> {
+    let piece = pieces.nth(n)?;
     let start = piece.as_ptr() as usize - text.as_ptr() as usize;
-    (start, start + piece.len())
-}
-
-/// The n-th of the longest runs without digits, counted from 0.
-fn word_at(text: &[u8], (start, end): Part, n: usize) -> Option<Part> {
-    let word = text[start..end].split(u8::is_ascii_digit).filter(|word| !word.is_empty()).nth(n)?;
-    Some(place_of(text, word))
-}
-
-/// The n-th line, counted from 0.
-fn line_at(text: &[u8], (start, end): Part, n: usize) -> Option<Part> {
-    let line = std::str::from_utf8(&text[start..end]).expect("ASCII").lines().nth(n)?;
-    Some(place_of(text, line.as_bytes()))
+    Some((start, start + piece.len()))
 }
 
 /// What is between quotes at the start of a part, and what comes after it.
@@ -55,6 +44,8 @@ fn quoted_parts(text: &[u8], (start, end): Part, quote: u8, escape: u8) -> Resul
 /// The part that a step takes: `part_by` in `crates/exports/src/places.rt` says which.
 fn part_by(text: &[u8], part: Part, step: Step, prefix: &[u8]) -> Result<Part, Option<usize>> {
     let (start, end) = part;
+    let words = text[start..end].split(u8::is_ascii_digit);
+    let lines = std::str::from_utf8(&text[start..end]).expect("ASCII").lines();
     let found = text[start..end].iter().position(|byte| *byte == step.code).map(|at| start + at);
     let digit = text[start..end].iter().position(u8::is_ascii_digit).map(|at| start + at);
     let mid = (step.at <= end - start).then(|| start + step.at);
@@ -77,11 +68,11 @@ fn part_by(text: &[u8], part: Part, step: Step, prefix: &[u8]) -> Result<Part, O
         13 => Ok((start, counted.ok_or(NOTHING)?)),
         14 => Ok((counted.ok_or(NOTHING)?, end)),
         15 => Ok(quoted_parts(text, part, step.code, step.code).map_err(|_| NOTHING)?.1),
-        16 => word_at(text, part, step.at).ok_or(NOTHING),
+        16 => nth_of(text, words.filter(|word| !word.is_empty()), step.at).ok_or(NOTHING),
         17 => Ok(trimmed(text, part, |byte| byte.is_ascii_digit())),
         19 => Ok((start, digit.ok_or(NOTHING)?)),
         20 => Ok((digit.ok_or(NOTHING)? + 1, end)),
-        21 => line_at(text, part, step.at).ok_or(NOTHING),
+        21 => nth_of(text, lines.map(str::as_bytes), step.at).ok_or(NOTHING),
         _ => (start < digits && digits - start <= step.at).then_some((digits, end)).ok_or(NOTHING),
     }
 }
