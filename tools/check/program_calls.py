@@ -1,5 +1,6 @@
 """Calls of the built programs, as data: what each writes, its status, its line on standard error, which is one write,
 and what it leaves of its input."""
+import fcntl
 import os
 import random
 import resource
@@ -351,6 +352,8 @@ def input_of(call):
         ours.close()
         return theirs.detach()
     reads, writes = os.pipe()
+    # The program starts once all of it is written, so the pipe has to hold it: a pipe of no set size holds 65,536 bytes.
+    fcntl.fcntl(writes, fcntl.F_SETPIPE_SZ, max(65_536, len(call.given or b"")))
     with open(writes, "wb") as pipe:
         pipe.write(call.given or b"")
     return reads
