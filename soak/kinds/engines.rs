@@ -110,6 +110,10 @@ pub fn expected(mode: usize, source: &[u8], script: &[u8]) -> (Fault, Vec<u8>) {
 /// The number of modes of the bounded engine. The last one takes all bytes.
 pub const BOUNDED: usize = 7;
 
+fn takes_all(mode: usize) -> bool {
+    mode == BOUNDED - 1
+}
+
 /// What a mode of the bounded engine has written when an error ends its input, or at the end.
 pub fn bounded_output(mode: usize, text: &[u8], is_whole: bool) -> Vec<u8> {
     match mode {
@@ -127,7 +131,7 @@ pub fn bounded_output(mode: usize, text: &[u8], is_whole: bool) -> Vec<u8> {
 
 /// What the bounded engine is expected to return, how many reads and writes have failed, and what it writes.
 pub fn expected_bounded(mode: usize, source: &[u8]) -> (Fault, usize, usize, Vec<u8>) {
-    let at = non_ascii(source).filter(|_| mode != 6);
+    let at = non_ascii(source).filter(|_| !takes_all(mode));
     let result = at.map_or(Fault("done", None), |at| Fault("ascii", Some(at)));
     (result, 0, 0, bounded_output(mode, &source[..at.unwrap_or(source.len())], at.is_none()))
 }
