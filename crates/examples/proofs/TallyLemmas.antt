@@ -61,7 +61,7 @@ module _ (same : List ℕ → List ℕ → Bool) (laws : IsEquivalence same) whe
 
 -- ---- the words of lines
 
--- what holds on `Ok` holds if there is no error
+-- what is true on `Ok` is true if there is no error
 pub at_ok : {T E : Type 0} (P : Type 0) (r : Result T E) → is_err r ≡ false → OnOk r P → P
 at_ok P (Ok _) sure holds = holds
 at_ok P (Err _) sure holds = absurd (false≢true (sym sure))

@@ -19,7 +19,8 @@ const LONGEST: usize = 4096;
 /// Replies with a greeting that says how long a line may be, or returns an error if the greeting is too long for a
 /// line of 80 characters; then nothing is written.
 fn greet<K: Sink, A: Allocator>(longest: usize, replies: &mut Replies<K, A>) -> fmt::Result
-    ensures greets { OnOk result (Says replies.old (line_reply (greeting longest) ∷ []) replies.new) }
+    ensures greets { OnOk result
+        (Says replies.old (line_reply (greeting longest) ∷ []) replies.new) }
     ensures unchanged { OnErr result (replies.new ≡ replies.old) }
 {
     let mut line = ArrayAsciiString::<80>::new(());
