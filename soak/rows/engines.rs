@@ -418,9 +418,7 @@ fn names(rows: &mut Rows) {
     for word in BOUNDED_NAMES.into_iter().chain(NAMES).chain(others) {
         rows.ask(|asked| {
             calls::ask_mode_names(asked, word.as_bytes());
-            // The eighth number is that of no mode, and stands for the last one.
-            let by_number = BOUNDED_NAMES.iter().chain(BOUNDED_NAMES.last());
-            asked.want.all(by_number.chain(&BOUNDED_NAMES).chain(&NAMES));
+            asked.want.all(BOUNDED_NAMES.iter().chain(&BOUNDED_NAMES).chain(&NAMES));
             asked.want.put(BOUNDED_NAMES.contains(&word).then_some(word));
             // A mode that takes a script or commands has no value of its own.
             asked.want.put(["copy", "lines", "tac", "caret", "json"].contains(&word).then_some(word));

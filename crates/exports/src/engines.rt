@@ -149,7 +149,7 @@ fn bounded_mode_of(mode: u8) -> BoundedMode {
 /// The name of each bounded mode by its number, the names of `BoundedMode::all`, and that of each mode by its number;
 /// and the names of the bounded mode and of the mode with the name `word`.
 pub fn ask_mode_names(word: &[u8], answer: &mut Answer) {
-    for number in 0..8 {
+    for number in 0..7 {
         answer.put(bounded_mode_of(number));
     }
     for mode in BoundedMode::all() {
