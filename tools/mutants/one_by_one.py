@@ -1,24 +1,31 @@
 """Tries each mutation that was written by hand. `rt ci` checks that the prover rejects a file of crates/CRATE/must-fail as a
 whole; this names the goals by which each mutation under a line `# MUTATION` is rejected, in these files, in those of
 crates/CRATE/mutations, and in edits/CRATE.edit of the data folder, which `rt ci` does not read. Mutations of different
-functions are tried in one check, in rounds, and those that no round rejects on their own. A mutation survives if the check
-passes with it. With --changed, tries those whose record is stale or lacking, and writes their records. Status 1: one
-survives, or cannot be applied, or does not reach the prover."""
+functions are tried in one check, in rounds, and those that no round rejects on their own. A check is one of the changed
+functions over the built libraries; before a mutation is said to survive, the whole crate is checked with it. With --changed,
+tries those whose record is stale or lacking, and writes their records. Status 1: one survives, or cannot be applied, or does
+not reach the prover."""
+import collections
 import contextlib
 import re
-import subprocess
+import shutil
+import sys
 import tempfile
 from dataclasses import dataclass
 from pathlib import Path
 
+import libraries
 import records
+from built import Checks
 from edit_files import edits_of, mutations_of
 from functions import functions_of
-from planting import copied
 
 # A goal that is open, by its place, and a proof by hand that fails, by the path of its function.
 OPEN = re.compile(r"^(?:note: )?(?:\./)?(src/\S+\.rt):(\d+):\d+: .*?\(`([^`]+)`\)", re.M)
 FAILED = re.compile(r"^(?:\./)?proofs/(\S+)/\w+\.antt:\d+:\d+: error: `([^`]+)`", re.M)
+# The line of a check that came to its end, and that of one that proved all that it was to check.
+ENDED = re.compile(r"^(?:only=|logic=)", re.M)
+PASSED = re.compile(r"^(?:only=(\d+) proved=\1$|logic=proved)", re.M)
 
 
 @dataclass
@@ -66,10 +73,27 @@ def planted(mutations, crate):
         (crate / file).write_text(text, encoding="utf-8")
 
 
-def check_with(mutations, crate):
-    """What the check says of the crate with these mutations."""
+def module_of(file):
+    return re.sub(r"^src/|\.rt$", "", file).replace("/", "::")
+
+
+def names_of(mutations, crate):
+    """What a check of the mutations names: their functions, or the module of one whose name another function may have. Nothing,
+    which stands for the whole crate, if a mutation is in no function, or such a function is in the root file."""
+    sources = {str(it.relative_to(crate)): it.read_text(encoding="utf-8") for it in crate.glob("src/**/*.rt")}
+    every = [it for file, text in sources.items() for it in functions_of(file, text)]
+    apart = {name for name, count in collections.Counter(it.name for it in every).items() if count == 1}
+    apart -= {it.name for it in every if it.in_trait}
+    places = [it for m in mutations for it in m.functions or [("src/lib.rt", 0, 0, "")]]
+    if any(name not in apart and file in ("src/lib.rt", "src/main.rt") for file, _, _, name in places):
+        return []
+    return sorted({name if name in apart else module_of(file) for file, _, _, name in places})
+
+
+def check_with(mutations, crate, check, names):
+    """What the check of these functions and modules says of the crate with these mutations."""
     with planted(mutations, crate):
-        return subprocess.run(["rt", "check"], cwd=crate, stdout=subprocess.PIPE, stderr=subprocess.STDOUT, text=True).stdout
+        return check(names)
 
 
 def goals_in(said, functions, outside=False):
@@ -90,16 +114,21 @@ def verdicts_of(mutations, said):
     return {id(it): ", ".join(goals_in(said, it.functions or every, outside=not it.functions)) for it in mutations}
 
 
-def try_apart(mutation, crate):
-    """How a check with one mutation rejects it; `survives` if it passes, and why if it does not reach the prover."""
-    said = check_with([mutation], crate)
-    if "logic=not-proved" in said:
-        return verdicts_of([mutation], said)[id(mutation)] or "a goal elsewhere"
-    return "survives" if "logic=proved" in said else f"cannot be applied: {' '.join(said.split()[-30:])}"
+def try_apart(mutation, crate, check):
+    """How a check with one mutation rejects it; `survives` if the crate passes, and why if it does not reach the prover."""
+    names = names_of([mutation], crate)
+    for its in [names, []] if names else [[]]:
+        said = check_with([mutation], crate, check, its)
+        if not ENDED.search(said):
+            return f"cannot be applied: {' '.join(said.split()[-30:])}"
+        if not PASSED.search(said):
+            return verdicts_of([mutation], said)[id(mutation)] or "a goal elsewhere"
+    return "survives"
 
 
-def try_crate(crate, texts, is_chosen, tell):
-    """Tries the mutations of a crate whose names are chosen, and tells how each is rejected."""
+def try_crate(crate, texts, is_chosen, tell, check):
+    """Tries the mutations of a crate whose names are chosen, and tells how each is rejected. `check` is what the check says of
+    functions or modules of the crate; of the whole crate, if none is named."""
     left = []
     for name, changes in (it for text in texts for it in mutations_of(text) if is_chosen(it[0])):
         try:
@@ -108,10 +137,10 @@ def try_crate(crate, texts, is_chosen, tell):
             tell(name, f"cannot be applied: {fault}")
     while left:
         chosen = round_of(left)
-        said = verdicts_of(chosen, check_with(chosen, crate)) if len(chosen) > 1 else {}
+        said = verdicts_of(chosen, check_with(chosen, crate, check, names_of(chosen, crate))) if len(chosen) > 1 else {}
         # If a function that it calls is changed too, the check does not judge a function's goals: it is tried in a later round.
         for it in [it for it in chosen if said.get(id(it))] or chosen:
-            tell(it.name, said.get(id(it)) or try_apart(it, crate))
+            tell(it.name, said.get(id(it)) or try_apart(it, crate, check))
             left.remove(it)
 
 
@@ -122,10 +151,15 @@ def arguments(asks):
 
 def run(settings, given):
     names = given.crates or [name for name in settings.all_crates() if edits_of(settings, name)]
+    libraries.ROOT = str(settings.root)
+    uses, _ = libraries.listed()
+    lacking = [name for name in names if not libraries.are_built(libraries.below(name.partition("/")[0], uses))]
+    if lacking:
+        print(f"mutants: the libraries below are not built: run rt lib in the folder of {', '.join(lacking)}", file=sys.stderr)
+        return 70
     rejected, others = [], []
     sums = records.Sums(settings.root) if given.changed else None
     with tempfile.TemporaryDirectory(prefix="one-by-one-") as scratch:
-        copy = copied(settings.root, Path(scratch) / "copy", True)
         for name in names:
             crate, _, only = name.partition("/")
             writer = records.Writer(settings, crate, sums) if given.changed else None
@@ -138,8 +172,10 @@ def run(settings, given):
                 if writer and not is_other:
                     writer.add(mutation, how)
 
-            before = len(rejected) + len(others)
-            try_crate(copy / "crates" / crate, edits_of(settings, crate), is_chosen, tell)
+            before, copy = len(rejected) + len(others), Path(scratch) / crate
+            for part in ("src", "specs", "proofs"):
+                shutil.copytree(settings.root / "crates" / crate / part, copy / part, dirs_exist_ok=True)
+            try_crate(copy, edits_of(settings, crate), is_chosen, tell, Checks(crate, copy, Path(scratch)).check)
             if only and not given.changed and len(rejected) + len(others) == before:
                 tell(only, "cannot be applied: there is no such mutation")
     survive = sum(how == "survives" for _, how in others)

@@ -23,11 +23,10 @@ import records
 from built import Built, Checks
 from edit_files import files_of, mutations_of, recorded_files
 from mutation import Crate
-from one_by_one import Mutation, functions_at, goals_in, planted, round_of
+from one_by_one import ENDED, Mutation, functions_at, goals_in, module_of, planted, round_of
 from operators import Mutant
 
-# The line of a check that came to its end, and a line that says that a proof rests on one that failed.
-ENDED = re.compile(r"^(only=|logic=)", re.MULTILINE)
+# A line that says that a proof rests on one that failed.
 WAITS = re.compile(r"^.*which was not admitted.*$", re.MULTILINE)
 VERDICT = re.compile(r"^fn (\S+): (.*)", re.MULTILINE)
 # The line of an impl of which a law is not proved, which is in no function.
@@ -124,10 +123,6 @@ def names_of(mutations):
         named |= {f"{module_of(file)}::{of_type}{trait}::{name}" for file, trait, of_type, name in written}
         named |= {module_of(file) for file, _, _ in m.changes if not written and file != "src/lib.rt"}
     return sorted(named)
-
-
-def module_of(file):
-    return re.sub(r"^src/|\.rt$", "", file).replace("/", "::")
 
 
 def try_rounds(mutations, calls, check, tell):

@@ -373,18 +373,22 @@ class OneByOne(SmallCrate):
         self.assertEqual(goals_in(said, smaller, outside=True), [])
 
     def test_what_each_mutation_is_told(self):
-        told = {}
+        told, asked = {}, []
 
-        def check(mutations, _):
-            if any("a > b" in new for it in mutations for _, _, new in it.changes):
-                return "src/lib.rt:9:5: not proved (`returns`)\nlogic=not-proved"
-            return "logic=proved" if mutations[0].name == "second" else "error"
+        def check(names):
+            asked.append(names)
+            text = (self.crate.folder / "src/lib.rt").read_text(encoding="utf-8")
+            if "a > b" in text:
+                return "src/lib.rt:9:5: not proved (`returns`)\nonly=1 proved=0 not-proved=1"
+            return "error" if "Wrong" in text else "only=1 proved=1" if names else "logic=proved"
 
-        with unittest.mock.patch("one_by_one.check_with", check):
-            try_crate(self.crate.folder, [EDITS, "# lost\nfile: src/lib.rt\nold: nowhere\nnew: x\n"], bool, told.__setitem__)
+        lost = "# lost\nfile: src/lib.rt\nold: nowhere\nnew: x\n"
+        try_crate(self.crate.folder, [EDITS, lost], bool, told.__setitem__, check)
         self.assertEqual([told["first"], told["second"]], ["returns", "survives"])
         self.assertIn("occurs 0 times", told["lost"])
         self.assertTrue(told["outside"].startswith("cannot be applied"))
+        # Two rounds name nothing, since one of their mutations is in no function. What passes is tried once more, with all.
+        self.assertEqual(asked, [[], [], ["smaller"], [], []])
 
 
 class Records(SmallCrate):
