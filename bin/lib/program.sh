@@ -2,7 +2,7 @@
 # `parts`, the crates that it is made from; their function `help` prints the help, and `is_mistyped` says of the words of a
 # call that it cannot be one.
 # A build counts if it was made from these sources with this toolchain. If there is none, the call is answered by the
-# unproved program (try_program.py).
+# unproved program, which is kept under a name that says what it was made from (try_program.py).
 set -eu
 (exec 3>&2) || exec 2>/dev/null
 here=$(cd "$(dirname "$(readlink -f "$0")")/.." && pwd)
@@ -44,6 +44,7 @@ build() {
   fi
   printf '%s\n' "$1" >"$scratch/mark"
   mv "$scratch/mark" "$mark"
+  rm -rf "$crate/out/unproved"
 }
 
 # Builds if there is no build, after any other build of this checkout has ended.
@@ -75,7 +76,10 @@ group="" scratch=""
 if [ "$*" != --build ]; then
   is_built "$sources" && exec "$program" "$@"
   ! is_mistyped "$@" || { say "this is no call of $name: see bin/$name --help"; exit 2; }
-  exec python3 -B "$here/bin/lib/try_program.py" "$name" "$@"
+  say "this is the unproved program; bin/$name --build proves and builds it, once"
+  unproved=$crate/out/unproved/${sources%% *}
+  [ ! -x "$unproved" ] || exec "$unproved" "$@"
+  exec python3 -B "$here/bin/lib/try_program.py" "$unproved" "$name" "$@"
 fi
 trap 'stop 129' HUP
 trap 'stop 130' INT
