@@ -292,15 +292,16 @@ y
 """
 STORED = [(TOP / "crates/examples" / name).read_bytes() for name in ("stdin", "stdout")]
 EXAMPLES = [
-    Call("head", ["head"], HEAD % b"", 0, b"GET /a?b 1.1\nhost a.example\ncharset utf-8\n"),
+    Call("head", ["head"], HEAD % b"", 0, b"GET /a?b 1.1\nhost a.example\nheaders content-type;host\ncharset utf-8\n"),
     Call("head of a target with a host", ["head"], HEAD.replace(b"/a", b"HTTP://b.example:80") % b"", 0,
-         b"GET HTTP://b.example:80?b 1.1\nhost b.example:80\ncharset utf-8\n"),
+         b"GET HTTP://b.example:80?b 1.1\nhost b.example:80\nheaders content-type;host\ncharset utf-8\n"),
     Call("head with a header twice", ["head"], HEAD % b"HOST:b\r\n", 0, b"GET /a?b 1.1\nheader 2 comes twice\n"),
     Call("head of no request", ["head"], b"GET  / HTTP/1.1\r\n\r\n", 0, b"not a request line: GET  / HTTP/1.1\n"),
     Call("head of two digits after the point", ["head"], HEAD.replace(b"1.1", b"1.01") % b"", 0,
          b"not a request line: GET /a?b HTTP/1.01\n"),
     Call("head of a media type without a subtype", ["head"], HEAD.replace(b"plain", b"") % b"", 0,
-         b"GET /a?b 1.1\nhost a.example\ncontent type, 1:6: expected a token\n"),
+         b"GET /a?b 1.1\nhost a.example\nheaders content-type;host\ncontent type, 1:6: expected a token\n"),
+    Call("head without a header", ["head"], b"GET / HTTP/1.0\r\n\r\n", 0, b"GET / 1.0\nno host\nheaders \n"),
     Call("host", ["host"], b"Accept: */*\nHOST:  a.example\nx\303\244: 1\n", 0, b"a.example\nthe byte at index 1 is not ASCII\n"),
     Call("ini", ["ini"], SETTINGS, 0, b"3:8: [net] port = 80\n4:9: [net] host = a.example=b\n6:7: [disk] path = \n"),
     Call("ini of a line without a delimiter", ["ini"], b"[net]\n port\n", 0, b"2:2: no '=' or ':'\n"),
@@ -329,6 +330,7 @@ EXAMPLES = [
     Call("tally of a long line", ["tally"], b"a\n" + b"b" * 65_537, 0,
          b"1 a\nthe line or part at index 2 is longer than the buffer\n"),
     Call("uniq", ["uniq"], b"b\na\r\nb\nB\n\nb", 0, b"1 \n1 B\n1 a\n3 b\n"),
+    Call("uniq of a count with two digits", ["uniq"], b"b\n" + b"a\n" * 10, 0, b"10 a\n 1 b\n"),
     Call("uniq of no line", ["uniq"], b"", 0, b""),
     Call("uniq of a byte above 127", ["uniq"], b"a\nz\303\244\n", 0, b"the byte at index 3 is not ASCII\n"),
     Call("tally of a byte above 127", ["tally"], b"z\303\244\n", 0, b"the byte at index 1 is not ASCII\n"),

@@ -6,7 +6,7 @@ use Rattle.std.specs.List.{AllByRecursion}
 use Rattle.std.specs.List.Sorted.{IsStrictlySortedBy}
 use Rattle.std.specs.BTreeMap.{BTreeMap, UpdatesBy, WritesThrough, get_by, insert_entry, is_at}
 use Rattle.std.specs.Cmp.Lexicographic.{slice_cmp}
-use Rattle.std.specs.Map.{keys_of, lookup, remove_entry}
+use Rattle.std.specs.Map.{keys_of, lookup, remove_entry, values_of}
 use Rattle.std.specs.Option.{OnSome, option_copied_mut}
 use Rattle.std.specs.Ordering.{nat_cmp}
 use Rattle.std.specs.Prelude.{string_bytes}
@@ -72,6 +72,12 @@ module _ {A V : Type 0} where
       → keys_of (texts_of entries) ≡ map string_bytes (keys_of entries)
   keys_texts [] = refl
   keys_texts (entry ∷ entries) = ap (λ keys. string_bytes entry.0 ∷ keys) (keys_texts entries)
+
+  -- the values are those of the strings
+  pub values_texts : (entries : List (String A × V))
+      → values_of (texts_of entries) ≡ values_of entries
+  values_texts [] = refl
+  values_texts (entry ∷ entries) = ap (λ values. entry.1 ∷ values) (values_texts entries)
 
   -- a value written at a text that is found changes it, and no key
   pub writes_texts : (key : List ℕ) (old new : BTreeMap (String A) V) (value : V)

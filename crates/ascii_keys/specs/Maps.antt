@@ -4,7 +4,7 @@ use Rattle.std.specs.Borrow.{Bor}
 use Rattle.std.specs.Cmp.Lexicographic.{slice_cmp}
 use Rattle.std.specs.List.{All, HoldsAt, insert}
 use Rattle.std.specs.List.Sorted.{IsPartitionPoint, IsStrictlySortedBy}
-use Rattle.std.specs.Map.{keys_of, lookup, update}
+use Rattle.std.specs.Map.{keys_of, lookup, update, values_of}
 use Rattle.std.specs.Ordering.{nat_cmp, on}
 use Rattle.std.specs.Prelude.{◌≡◌, ℕ, ◌+◌, ◌<◌, ◌≤◌, Bool, List, MatchOption, Option, Some}
 use Rattle.std.specs.Prelude.{cond, is_some, length, map, slice_index_or, string_bytes}
@@ -46,6 +46,12 @@ pub record Writes {V : Type 0} (old : Entries V) (key : List ℕ) (value : V) (n
 -- `iterator` has yet to yield the entries of `map`, whose keys ascend by their bytes
 pub record Walks {V : Type 0} (map iterator : Entries V) : Type 0 where
   pub entries : iterator ≡ map
+  pub ordered : IsStrictlySortedBy (slice_cmp nat_cmp) (keys_of map)
+
+-- `iterator` has yet to yield the values of `map`, in the order of its keys, which ascend by their
+-- bytes
+pub record WalksValues {V : Type 0} (map : Entries V) (iterator : List V) : Type 0 where
+  pub values : iterator ≡ values_of map
   pub ordered : IsStrictlySortedBy (slice_cmp nat_cmp) (keys_of map)
 
 -- ---- a map that ignores ASCII case: a list of texts with their values

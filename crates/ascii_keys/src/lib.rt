@@ -22,7 +22,7 @@ mod set_iter;
 mod sets;
 
 pub use folded::{Folded, FoldedStr, FoldedString};
-pub use map_iter::{AsciiMapIter, FoldedMapIter};
+pub use map_iter::{AsciiMapIter, AsciiMapValues, FoldedMapIter, FoldedMapKeys};
 pub use maps::{AsciiMap, FoldedMap};
 pub use set_iter::{AsciiSetIter, FoldedSetIter};
 pub use sets::{AsciiSet, FoldedSet};

@@ -1,8 +1,10 @@
-//! The entries of a map, in the order of its keys.
+//! The entries of a map, its keys and its values, in the order of its keys.
 
 ghost use Rattle.std.specs.Iterator.{item_count};
+ghost use Rattle.std.specs.Map.{keys_of};
 ghost use Rattle.std.specs.Map.Iter.{TakesFirst};
 ghost use Rattle.std.specs.Prelude.{◌≡◌};
+ghost use Rattle.ascii.specs.View.{text_of};
 ghost use Rattle.ascii_keys.specs.Maps.{entry_of};
 
 use crate::folded::FoldedString;
@@ -60,6 +62,9 @@ impl<'a, V> Iterator for AsciiMapIter<'a, V> {
     }
 }
 
+/// An iterator over the values of an `AsciiMap`, in the order of their keys: that of std's `BTreeMap`.
+pub type AsciiMapValues<'a, V> = btree_map::Values<'a, String, V>;
+
 /// An iterator over the entries of a `FoldedMap`: each key as it was first written, and its value.
 #[derive(Drop)]
 pub struct FoldedMapIter<'a, V> {
@@ -104,5 +109,50 @@ impl<'a, V> Iterator for FoldedMapIter<'a, V> {
     fn next(&mut self) -> Option<(AsciiStr<'a>, &'a V)> {
         let (key, value) = self.entries.next()?;
         Some((key.as_folded().into_inner(), value))
+    }
+}
+
+/// An iterator over the keys of a `FoldedMap`, each as it was first written.
+#[derive(Drop)]
+pub struct FoldedMapKeys<'a, V> {
+    entries: FoldedMapIter<'a, V>,
+}
+
+impl<'a, V> Model for FoldedMapKeys<'a, V> {
+    ghost use Rattle.std.specs.Map.{keys_of};
+    ghost use Rattle.std.specs.Prelude.{List, ℕ};
+
+    ghost Value = { List (List ℕ) };
+
+    ghost view = { λ iter. keys_of iter.entries };
+}
+
+impl<'a, V> FoldedMapKeys<'a, V> {
+    /// Returns an iterator over the keys of these entries.
+    pub(crate) fn new(entries: FoldedMapIter<'a, V>) -> Self
+        ensures { result ≡ keys_of entries.entry }
+    {
+        FoldedMapKeys { entries }
+    }
+}
+
+impl<'a, V> Iterator for FoldedMapKeys<'a, V> {
+    type Item = AsciiStr<'a>;
+
+    ghost next_gives = { TakesFirst text_of };
+
+    ghost remaining = { item_count (λ keys. keys) };
+
+    /// Returns the next key, as it was first written, or `None` if there are none left; it then keeps
+    /// returning `None`.
+    ///
+    ///     let mut headers = FoldedMap::new(alloc);
+    ///     headers.insert(AsciiStr::literal("Host"), 1)?;
+    ///     let mut keys = headers.keys();
+    ///     keys.next() // Some("Host")
+    ///     keys.next() // None
+    fn next(&mut self) -> Option<AsciiStr<'a>> {
+        let (key, _) = self.entries.next()?;
+        Some(key)
     }
 }

@@ -22,7 +22,7 @@ ghost use Rattle.std.specs.Option.{option_copied};
 ghost use Rattle.ascii.specs.View.{text_of};
 
 use crate::folded::{FoldedStr, FoldedString};
-use crate::map_iter::{AsciiMapIter, FoldedMapIter};
+use crate::map_iter::{AsciiMapIter, AsciiMapValues, FoldedMapIter, FoldedMapKeys};
 use ascii::AsciiStr;
 use std::alloc::{AllocError, Global};
 use std::cmp::Ordering;
@@ -55,7 +55,7 @@ impl<V: Drop> AsciiMap<V> {
     ghost use Rattle.std.specs.Option.{option_copied_mut};
     ghost use Rattle.std.specs.Prelude.{[], length};
     ghost use Rattle.ascii_keys.specs.AsciiMapLends.{lends_at};
-    ghost use Rattle.ascii_keys.specs.Maps.{ChangesAt, Walks, value_at};
+    ghost use Rattle.ascii_keys.specs.Maps.{ChangesAt, Walks, WalksValues, value_at};
 
     /// Creates an empty map. Does not allocate.
     ///
@@ -182,6 +182,20 @@ impl<V: Drop> AsciiMap<V> {
     {
         AsciiMapIter::new(self.entries.iter())
     }
+
+    /// Returns an iterator over the values, in the order of the bytes of their keys. Does not allocate.
+    ///
+    ///     let mut ports = AsciiMap::new(alloc);
+    ///     ports.insert(AsciiStr::literal("http"), 80)?;
+    ///     ports.insert(AsciiStr::literal("ftp"), 21)?;
+    ///     ports.values().next() // Some(21)
+    ///     ports.values().max() // Some(80)
+    ///     AsciiMap::<u8>::new(alloc).values().next() // None
+    pub fn values(&self) -> AsciiMapValues<'_, V>
+        ensures { WalksValues self.now result }
+    {
+        self.entries.values()
+    }
 }
 
 /// A map from texts to values that ignores ASCII case, in the order of its keys in lower case. It
@@ -206,11 +220,12 @@ impl<V> Model for FoldedMap<V> {
 impl<V: Drop> FoldedMap<V> {
     ghost use Rattle.std.specs.Prelude.{[], ◌<◌, IfErr, IsOk, IsSome, All, length};
     ghost use Rattle.std.specs.Borrow.{sem};
-    ghost use Rattle.std.specs.Map.{remove_entry};
+    ghost use Rattle.std.specs.Map.{keys_of, remove_entry};
     ghost use Rattle.std.specs.Option.{unwrap_or};
     ghost use Rattle.ascii_keys.specs.FoldedMapLends.{lends_put};
     ghost use Rattle.ascii_keys.specs.Maps.{Changes, HasKeys, Puts, folded_value_at, same_folded};
     ghost use Rattle.ascii_keys.specs.Maps.{IsGapFor, IsPlaceOf, WalksInOrder, folded_order};
+    ghost use Rattle.ascii_keys.specs.Sets.{WalksTexts};
 
     /// Creates an empty map. Does not allocate.
     ///
@@ -359,6 +374,20 @@ impl<V: Drop> FoldedMap<V> {
         ensures { WalksInOrder self.now result }
     {
         FoldedMapIter::new(self.entries.as_slice())
+    }
+
+    /// Returns an iterator over the keys, in the order of the keys in lower case, each as it was first
+    /// written. Does not allocate.
+    ///
+    ///     let mut headers = FoldedMap::new(alloc);
+    ///     headers.insert(AsciiStr::literal("b"), 1)?;
+    ///     headers.insert(AsciiStr::literal("A"), 2)?;
+    ///     headers.keys().next() // Some("A")
+    ///     FoldedMap::<u8>::new(alloc).keys().next() // None
+    pub fn keys(&self) -> FoldedMapKeys<'_, V>
+        ensures { WalksTexts folded_order (keys_of self.now) result }
+    {
+        FoldedMapKeys::new(self.iter())
     }
 
     /// Returns the place of the entry at `key`, or the place where its entry would be.

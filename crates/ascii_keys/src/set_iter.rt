@@ -6,7 +6,7 @@ ghost use Rattle.std.specs.Map.Iter.{TakesFirst};
 ghost use Rattle.std.specs.Prelude.{◌≡◌};
 ghost use Rattle.ascii.specs.View.{text_of};
 
-use crate::map_iter::{AsciiMapIter, FoldedMapIter};
+use crate::map_iter::{AsciiMapIter, FoldedMapKeys};
 use ascii::AsciiStr;
 use std::marker::Model;
 
@@ -55,46 +55,4 @@ impl<'a> Iterator for AsciiSetIter<'a> {
 }
 
 /// An iterator over the texts of a `FoldedSet`, each as it was first written.
-#[derive(Drop)]
-pub struct FoldedSetIter<'a> {
-    entries: FoldedMapIter<'a, ()>,
-}
-
-impl<'a> Model for FoldedSetIter<'a> {
-    ghost use Rattle.std.specs.Map.{keys_of};
-    ghost use Rattle.std.specs.Prelude.{List, ℕ};
-
-    ghost Value = { List (List ℕ) };
-
-    ghost view = { λ iter. keys_of iter.entries };
-}
-
-impl<'a> FoldedSetIter<'a> {
-    /// Returns an iterator over the keys of these entries.
-    pub(crate) fn new(entries: FoldedMapIter<'a, ()>) -> Self
-        ensures { result ≡ keys_of entries.entry }
-    {
-        FoldedSetIter { entries }
-    }
-}
-
-impl<'a> Iterator for FoldedSetIter<'a> {
-    type Item = AsciiStr<'a>;
-
-    ghost next_gives = { TakesFirst text_of };
-
-    ghost remaining = { item_count (λ texts. texts) };
-
-    /// Returns the next text, as it was first written, or `None` if there are none left; it then keeps
-    /// returning `None`.
-    ///
-    ///     let mut words = FoldedSet::new(alloc);
-    ///     words.insert(AsciiStr::literal("The"))?;
-    ///     let mut texts = words.iter();
-    ///     texts.next() // Some("The")
-    ///     texts.next() // None
-    fn next(&mut self) -> Option<AsciiStr<'a>> {
-        let (text, _) = self.entries.next()?;
-        Some(text)
-    }
-}
+pub type FoldedSetIter<'a> = FoldedMapKeys<'a, ()>;

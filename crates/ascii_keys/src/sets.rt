@@ -90,7 +90,7 @@ impl FoldedSet {
     pub fn iter(&self) -> FoldedSetIter<'_>
         ensures { WalksTexts folded_order self.now result }
     {
-        FoldedSetIter::new(self.map.iter())
+        self.map.keys()
     }
 }
 
@@ -170,6 +170,7 @@ impl AsciiSet {
     {
         self.map.clear();
     }
+
     /// Returns an iterator over the texts, in the order of their bytes. Does not allocate.
     ///
     ///     let mut words = AsciiSet::new(alloc);

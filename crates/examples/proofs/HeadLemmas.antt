@@ -1,16 +1,17 @@
 -- Where an authority ends, and one more header with a name that no header before it has.
 use Rattle.std.proofs.Common.{◌≡◌, ◌∙◌, ◌+◌, ℕ, List, [], ◌∷◌, ◌++◌, None, Option, Some, ap, arith}
 use Rattle.std.proofs.Common.{◌<◌, MatchOption, get_or, inl, inr, length, length-append, reverse, subst}
-use Rattle.std.proofs.Common.{sym, take, unwrap_or}
-use Rattle.std.specs.List.{All}
+use Rattle.std.proofs.Common.{codes, map, refl, sym, take, unwrap_or}
+use Rattle.std.specs.List.{All, flat_map, join_by}
 use Rattle.std.specs.Option.{option_map}
-use Rattle.std.proofs.lemmas.List.{reverse-append, reverse-reverse, take_all}
+use Rattle.std.proofs.lemmas.List.{map-append, reverse-append, reverse-reverse, take_all}
 use Rattle.std.proofs.lemmas.List.Elements.{All-append, All-cons, All-head, All-nil, All-tail}
 use Rattle.std.proofs.lemmas.List.Quantifiers.{all_pairs_push}
 use Rattle.std.proofs.lemmas.Option.{slice_get-get_or}
 use Rattle.ascii.proofs.ListLemmas.{AllZip-push}
 use Rattle.ascii.specs.ByClass.{IsOutside}
 use Rattle.ascii.specs.Bytes.{IsFirstOf}
+use Rattle.ascii.specs.Case.{lower_image}
 use Rattle.ascii.specs.View.{text_of}
 use Rattle.ascii.specs.declared.ascii_str.AsciiStr.{AsciiStr}
 use Rattle.ascii_formats.proofs.PartsLemmas.{cut_by}
@@ -72,3 +73,24 @@ pub stops_at : (lines : List OwnedLine) (index : ℕ) (line : OwnedLine) (map : 
     → StopsAt lines index Here
 stops_at lines index line map Here inside at are here =
     (map, are, rw (slice_get-get_or lines index line inside, ← at) here)
+
+-- ---- the list of the names
+
+-- the lower case of what comes after the first name
+names_after : (views : List AsciiStr)
+    → map lower_image (flat_map (λ view. 59 ∷ text_of view) views)
+    ≡ flat_map (λ name. 59 ∷ map lower_image name) (map text_of views)
+names_after [] = refl
+names_after (view ∷ views) = rw (
+  map-append lower_image (text_of view) (flat_map (λ view. 59 ∷ text_of view) views),
+  names_after views,
+) refl
+
+-- the lower case of joined names is their lower cases, joined
+pub lower_names : (views : List AsciiStr)
+    → map lower_image (join_by text_of (codes ";") views)
+    ≡ join_by (λ name. map lower_image name) (codes ";") (map text_of views)
+lower_names [] = refl
+lower_names (view ∷ views) =
+    map-append lower_image (text_of view) (flat_map (λ view. 59 ∷ text_of view) views)
+    ∙ ap (λ codes. map lower_image (text_of view) ++ codes) (names_after views)

@@ -5,3 +5,4 @@ pub mod SeenLemmas
 pub mod SpellingLemmas
 pub mod TallyLemmas
 pub mod TokensLemmas
+pub mod UniqLemmas

@@ -1,15 +1,18 @@
 -- The head of an HTTP/1.1 request.
 use Rattle.std.specs.Prelude.{◌≡◌, ◌≢◌, List, [], ◌∷◌, ◌++◌, ◌-◌, ◌^◌, All, IsSome, IsSomeAnd}
-use Rattle.std.specs.Prelude.{◌⊎◌, ℕ, ⊤, codes, length, slice_get, take}
-use Rattle.std.specs.List.{AllPairs, AllZip}
+use Rattle.std.specs.Prelude.{◌⊎◌, ℕ, ⊤, codes, length, map, slice_get, take}
+use Rattle.std.specs.List.{AllPairs, AllZip, join_by}
+use Rattle.std.specs.List.Sorted.{IsStrictlySortedBy}
+use Rattle.std.specs.Map.{keys_of}
 use Rattle.ascii.specs.ByClass.{IsOutside}
+use Rattle.ascii.specs.Case.{lower_image}
 use Rattle.ascii.specs.Class.{IsGraphic, IsTokenCode}
 use Rattle.ascii.specs.Search.{IgnoringCase, IsPrefix}
 use Rattle.ascii_formats.specs.Numbers.{WritesNumber}
 use Rattle.ascii_formats.specs.Parts.{IsCutBy}
 use Rattle.ascii.specs.View.{text_of}
 use Rattle.ascii.specs.declared.ascii_str.AsciiStr.{AsciiStr}
-use Rattle.ascii_keys.specs.Maps.{Entries, folded_value_at}
+use Rattle.ascii_keys.specs.Maps.{Entries, folded_order, folded_value_at}
 use Rattle.ascii_lines.specs.declared.owned_lines.OwnedLine.{OwnedLine}
 use Rattle.cookbook.specs.HeaderMap.{HasLastValues, values_in}
 use Rattle.cookbook.specs.Headers.{IsHeader, IsHeaderError, IsNamed}
@@ -75,3 +78,9 @@ IsHeadersError lines (NotHeader index error) =
 IsHeadersError lines (Twice index) = StopsAt lines index (λ map line. (header : Header)
     × IsHeaderOf line header × IsSome (folded_value_at map (text_of header.name)))
 IsHeadersError lines Memory = ⊤
+
+-- `list` is the names of `headers` in lower case, with `;` between each two. The names ascend, so
+-- no two are equal
+pub record IsNameList {V : Type 0} (headers : Entries V) (list : List ℕ) : Type 0 where
+  pub names : list ≡ join_by (λ name. map lower_image name) (codes ";") (keys_of headers)
+  pub ordered : IsStrictlySortedBy folded_order (keys_of headers)

@@ -1,12 +1,13 @@
 -- How often texts occur.
 use Rattle.std.specs.Cmp.Lexicographic.{slice_cmp}
 use Rattle.std.specs.Fmt.{decimal}
-use Rattle.std.specs.List.{count_by, flat_map}
+use Rattle.std.specs.List.{count_by, flat_map, reduce}
 use Rattle.std.specs.List.Sorted.{IsStrictlySortedBy}
-use Rattle.std.specs.Map.{keys_of}
+use Rattle.std.specs.Map.{keys_of, values_of}
+use Rattle.std.specs.Option.{unwrap_or}
 use Rattle.std.specs.Ordering.{nat_cmp}
 use Rattle.std.specs.Prelude.{◌≡◌, ℕ, ◌-◌, ◌*◌, ◌^◌, ◌≤◌, Bool, List, [], ◌∷◌, ◌++◌, None, Option}
-use Rattle.std.specs.Prelude.{Some, false, length, map, suc, zero}
+use Rattle.std.specs.Prelude.{Some, false, length, map, max, replicate, suc, zero}
 use Rattle.std.specs.Str.{bytes_eq}
 use Rattle.ascii.specs.ByClass.{words_by}
 use Rattle.ascii.specs.Case.{lower_image}
@@ -71,6 +72,12 @@ CountsLines lines counts = CountsBy bytes_eq (bodies lines) (value_at counts)
 abbrev pub Ascends : Entries ℕ → Type 0
 Ascends counts = IsStrictlySortedBy (slice_cmp nat_cmp) (keys_of counts)
 
--- what is printed of a line: its count, a space, and the line
-abbrev pub uniq_line : List ℕ × ℕ → List ℕ
-uniq_line entry = decimal entry.1 ++ 32 ∷ (entry.0 ++ 10 ∷ [])
+-- the number of digits of the largest of `counts`, or 1 if there are none
+abbrev pub width_of : Entries ℕ → ℕ
+width_of counts = length (decimal (unwrap_or (reduce max (values_of counts)) 0))
+
+-- what is printed of a line: its count, after spaces that fill it up to `width` characters, a
+-- space, and the line
+abbrev pub uniq_line : ℕ → List ℕ × ℕ → List ℕ
+uniq_line width entry = let count = decimal entry.1 in
+    replicate (width - length count) 32 ++ (count ++ 32 ∷ (entry.0 ++ 10 ∷ []))

@@ -1,23 +1,25 @@
-//! Prints the request line of an HTTP/1.1 request, its host and the charset of its content, or why it has none. The host
-//! is that of the target, if it begins with `http://`, and otherwise that of the header Host.
+//! Prints the request line of an HTTP/1.1 request, its host, the names of its headers and the charset of its content, or
+//! why it has none. The host is that of the target, if it begins with `http://`, and otherwise that of the header Host.
 #![tactic(auto)]
 
-ghost use Rattle.std.specs.Prelude.{IfSome, MatchOption, MatchResult, codes};
+ghost use Rattle.std.specs.Prelude.{IfOk, IfSome, MatchOption, MatchResult, codes};
 ghost use Rattle.std.proofs.Common.{rules};
 ghost use Rattle.ascii.specs.Search.{IgnoringCase, StartsWith};
 ghost use Rattle.ascii.specs.View.{text_of};
-ghost use Rattle.examples.specs.Head.{AreHeaders, HasAuthority, IsHeadersError, IsRequestLine};
+ghost use Rattle.examples.specs.Head.{AreHeaders, HasAuthority, IsHeadersError, IsNameList};
+ghost use Rattle.examples.specs.Head.{IsRequestLine};
 
 use ascii::classes::{ByRanges, Graphic, Ranges, Token};
 use ascii_formats::AsciiStrExt;
 use ascii_formats::parts::{ParseError, Part};
 use ascii_keys::FoldedMap;
 use ascii_lines::{
-    AsciiChar, AsciiStr, Block, BlockEnd, Endings, Input, LineReader, OwnedLine, read_block,
+    AsciiChar, AsciiStr, AsciiString, Block, BlockEnd, Endings, Input, LineReader, OwnedLine,
+    read_block,
 };
 use cookbook::headers::{HeaderError, read_header};
 use cookbook::media_type::MediaType;
-use std::alloc::Global;
+use std::alloc::{AllocError, Global};
 use std::io;
 
 /// The parts of a request line. For `GET / HTTP/1.1` the minor version is 1.
@@ -122,7 +124,20 @@ pub fn read_headers<'a>(
     Ok(headers)
 }
 
-/// Prints the host of a request and the charset of its content, or why there are none.
+/// Returns the names of the headers in lower case, in order, with `;` between each two, as a signature of a request lists
+/// them; or an error if an allocation fails.
+pub fn name_list(
+    alloc: Global,
+    headers: &FoldedMap<AsciiStr<'_>>,
+) -> Result<AsciiString, AllocError>
+    ensures { IfOk result (λ list. IsNameList headers.now list.text) }
+{
+    let mut list = AsciiString::collect_joined(alloc, headers.keys(), AsciiStr::literal(";"))?;
+    list.make_ascii_lowercase();
+    Ok(list)
+}
+
+/// Prints the host of a request, the names of its headers and the charset of its content, or why there are none.
 fn show_headers(rt: &HostRuntime, target: AsciiStr<'_>, lines: &[OwnedLine]) -> io::Result<()> {
     let headers = match read_headers(rt.alloc(), lines) {
         Ok(found) => found,
@@ -137,6 +152,7 @@ fn show_headers(rt: &HostRuntime, target: AsciiStr<'_>, lines: &[OwnedLine]) -> 
         Some(host) => println!(rt; "host {host}")?,
         None => println!(rt; "no host")?,
     }
+    println!(rt; "headers {}", name_list(rt.alloc(), &headers)?)?;
     match headers.get(AsciiStr::literal("content-type")) {
         Some(value) => show_charset(rt, *value),
         None => Ok(()),

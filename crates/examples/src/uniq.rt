@@ -1,11 +1,11 @@
 //! Prints each line of standard input once, with the number of times that it occurs: `COUNT LINE` for each, in the order
-//! of their bytes.
+//! of their bytes. The counts are to the right in a column that is as wide as the largest of them.
 #![tactic(auto)]
 
 ghost use Rattle.std.specs.List.{flat_map};
 ghost use Rattle.std.specs.Prelude.{◌≡◌, IfOk, OnOk, string_bytes};
 ghost use Rattle.ascii.specs.Lines.{OfLines};
-ghost use Rattle.examples.specs.Tally.{Ascends, CountsLines, uniq_line};
+ghost use Rattle.examples.specs.Tally.{Ascends, CountsLines, uniq_line, width_of};
 
 use ascii::{AsciiStr, text};
 use ascii_keys::AsciiMap;
@@ -28,15 +28,25 @@ pub fn count_lines(alloc: Global, text: AsciiStr<'_>) -> Result<AsciiMap<usize>,
     Ok(counts)
 }
 
-/// Returns a line `COUNT LINE` for each line, in order, or an error if an allocation fails.
+/// Returns the number of digits of the largest count, or an error if an allocation fails.
+fn count_width(alloc: Global, counts: &AsciiMap<usize>) -> Result<usize, AllocError>
+    ensures { IfOk result (λ width. width ≡ width_of counts.now) }
+{
+    let largest = counts.values().max().copied().unwrap_or(0);
+    Ok(largest.to_string(alloc)?.len())
+}
+
+/// Returns a line `COUNT LINE` for each line, in order, or an error if an allocation fails. Spaces before a count fill it
+/// up to the width of the largest.
 pub fn uniq_lines(alloc: Global, counts: &AsciiMap<usize>) -> Result<String, AllocError>
     ensures lines { IfOk result (λ lines.
-        string_bytes lines ≡ flat_map uniq_line counts.now) }
+        string_bytes lines ≡ flat_map (uniq_line (width_of counts.now)) counts.now) }
     ensures ordered { OnOk result (Ascends counts.now) }
 {
+    let width = count_width(alloc, counts)?;
     let mut lines = String::new(alloc);
     for (line, count) in counts.iter() {
-        writeln!(lines, "{count} {line}")?;
+        writeln!(lines, "{count:>width$} {line}")?;
     }
     Ok(lines)
 }

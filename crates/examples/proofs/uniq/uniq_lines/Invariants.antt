@@ -8,5 +8,5 @@ use Rattle.examples.proofs.uniq.uniq_lines.Given as goal
 abbrev pub invariant-loop-line : goal.invariant-loop-line
 invariant-loop-line l = record {
   whole : l.counts ≡ map entry_of l.yielded ++ l.line-iterator;
-  lines : string_bytes l.lines ≡ flat_map uniq_line (map entry_of l.yielded);
+  lines : string_bytes l.lines ≡ flat_map (uniq_line l.width) (map entry_of l.yielded);
 }

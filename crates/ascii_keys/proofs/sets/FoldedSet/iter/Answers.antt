@@ -1,10 +1,4 @@
-use Rattle.std.proofs.Common.{◌∙◌, ap}
-use Rattle.std.specs.Map.{keys_of}
-use Rattle.ascii_keys.proofs.SetLemmas.{keys_ascend}
 use Rattle.ascii_keys.proofs.sets.FoldedSet.iter.Goals as goal
 
 pub returns : goal.returns
-returns c = rw (← c.self.view_is) record {
-  texts = c.new.ensures ∙ ap keys_of c.iter.ensures.entries;
-  ordered = keys_ascend c.self.inside.map c.iter.ensures.ordered;
-}
+returns c = rw (← c.self.view_is) c.keys.ensures
