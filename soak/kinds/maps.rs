@@ -94,7 +94,10 @@ fn put_step(map: &mut Map, step: Step, key: Vec<u8>, fails: bool, want: &mut Ans
             *value = value.wrapping_add(step.at);
             *value
         })),
-        4 => want.all(&*map),
+        4 => {
+            want.all(&*map);
+            want.all(map.values());
+        }
         6 => map.clear(),
         _ => want.put(map.contains_key(&key)),
     }
@@ -118,7 +121,10 @@ fn put_folded_step(map: &mut FoldedMap, step: Step, key: &[u8], fails: bool, wan
             put(value);
             want.put(value);
         }
-        4 => want.all(map.values()),
+        4 => {
+            want.all(map.values());
+            want.all(map.values().map(|entry| &entry.0));
+        }
         _ => want.put(map.contains_key(&lower)),
     }
     want.put((map.len(), map.is_empty()));

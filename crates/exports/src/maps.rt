@@ -9,8 +9,9 @@ use std::collections::{BTreeMap, HashMap};
 
 /// What steps over a map return, each with the length of the map: 0 inserts the number at the step's text, 1 gets, 2 removes,
 /// 3 adds the number to the one there, 4 yields all entries, and any other kind looks whether the key is there. First of a map
-/// in which keys differ by case, and then of one that ignores case. In that one 3 puts the number first if there is none. Then
-/// of two sets: 0 adds the text, 4 yields all texts, and each step looks whether it is there. 6 clears what differs by case.
+/// in which keys differ by case, and then of one that ignores case. In that one 3 puts the number first if there is none. Of
+/// the first map 4 yields the values too, and of the second the keys. Then of two sets: 0 adds the text, 4 yields all texts,
+/// and each step looks whether it is there. 6 clears what differs by case.
 pub fn ask_maps(alloc: Global, texts: AsciiStr, steps: &[Step], answer: &mut Answer) {
     let (mut map, mut folded) = (AsciiMap::new(alloc), FoldedMap::new(alloc));
     let mut set = AsciiSet::new(alloc);
@@ -51,6 +52,9 @@ fn put_step(map: &mut AsciiMap<usize>, step: Step, key: AsciiStr, answer: &mut A
             for (key, value) in map.iter() {
                 answer.put((key, *value));
             }
+            for value in map.values() {
+                answer.put(*value);
+            }
         }
         6 => map.clear(),
         _ => answer.put(map.get(key).is_some()),
@@ -73,6 +77,9 @@ fn put_folded_step(map: &mut FoldedMap<usize>, step: Step, key: AsciiStr, answer
         4 => {
             for (key, value) in map.iter() {
                 answer.put((key, *value));
+            }
+            for key in map.keys() {
+                answer.put(key);
             }
         }
         _ => answer.put(map.get(key).is_some()),
