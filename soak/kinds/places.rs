@@ -46,6 +46,7 @@ fn part_by(text: &[u8], part: Part, step: Step, prefix: &[u8]) -> Result<Part, O
     let (start, end) = part;
     let words = text[start..end].split(u8::is_ascii_digit);
     let lines = std::str::from_utf8(&text[start..end]).expect("ASCII").lines();
+    let pieces = text[start..end].split(|byte| *byte == step.code);
     let found = text[start..end].iter().position(|byte| *byte == step.code).map(|at| start + at);
     let digit = text[start..end].iter().position(u8::is_ascii_digit).map(|at| start + at);
     let mid = (step.at <= end - start).then(|| start + step.at);
@@ -62,7 +63,7 @@ fn part_by(text: &[u8], part: Part, step: Step, prefix: &[u8]) -> Result<Part, O
         7 => Ok((digits, end)),
         8 => Ok(quoted_parts(text, part, step.code, b'\\')?.0),
         9 => Ok(quoted_parts(text, part, step.code, b'\\')?.1),
-        10 | 22 => (found == Some(start)).then_some((start + 1, end)).ok_or(NOTHING),
+        10 | 23 => (found == Some(start)).then_some((start + 1, end)).ok_or(NOTHING),
         11 => (start < digits).then_some((start, digits)).ok_or(NOTHING),
         12 => (start < digits).then_some((digits, end)).ok_or(NOTHING),
         13 => Ok((start, counted.ok_or(NOTHING)?)),
@@ -73,6 +74,7 @@ fn part_by(text: &[u8], part: Part, step: Step, prefix: &[u8]) -> Result<Part, O
         19 => Ok((start, digit.ok_or(NOTHING)?)),
         20 => Ok((digit.ok_or(NOTHING)? + 1, end)),
         21 => nth_of(text, lines.map(str::as_bytes), step.at).ok_or(NOTHING),
+        22 => nth_of(text, pieces, step.at).ok_or(NOTHING),
         _ => (start < digits && digits - start <= step.at).then_some((digits, end)).ok_or(NOTHING),
     }
 }
@@ -80,7 +82,7 @@ fn part_by(text: &[u8], part: Part, step: Step, prefix: &[u8]) -> Result<Part, O
 pub fn parts(random: &mut Random, asked: &mut Asked) {
     let text = random.text();
     let (mut texts, mut steps) = (Vec::new(), Vec::new());
-    for kind in random.script(23) {
+    for kind in random.script(24) {
         let (code, at) = (random.code_of(&text), random.place(text.len() / 2));
         let start = texts.len();
         texts.extend(random.needle(&text));

@@ -248,12 +248,13 @@ HEAD = b"GET /a?b HTTP/1.1\r\nHost: a.example\r\nContent-Type: text/plain; CHARS
 SETTINGS = b"; a comment\n[net]\nport = 80\n host:  a.example=b \n[disk]\npath =\n"
 SENTENCE = b"$GPGGA,123519,4807.038,N,01131.000,E,1,08,0.9,545.4,M,46.9,M,,*"
 SENTENCES = [SENTENCE + b"47", SENTENCE.replace(b"545.4", b"-545.4") + b"6A", SENTENCE + b"46",
-             SENTENCE.replace(b"7.038", b"7.0.8") + b"5A", b"$GPRMC,123519,A*07", b"0abc~", b""]
+             SENTENCE.replace(b"7.038", b"7.0.8") + b"5A", b"$GPRMC,123519,A*07", b"$GPGGA,123519*77", b"0abc~", b""]
 FIXES = b"""4807.038N 1131E at 545.4 m, quality 1
 4807.038N 1131E at -545.4 m, quality 1
-the checksum is 47
-field 2 is at fault
-not a GGA sentence
+3:1: the checksum is 47
+4:15: field 2 is at fault
+5:1: not a GGA sentence
+6:2: there is no field 2
 payload 0abc
 """
 TEXT = b"TWO\none\nTwo and three\nthe two lines that are longer than one row\nend\n"

@@ -22,7 +22,7 @@ use Rattle.ascii.specs.Lines.{Line}
 use Rattle.ascii.specs.Parts.{WithStart}
 use Rattle.ascii.specs.Placed.{body_in}
 use Rattle.ascii.specs.Search.{IsCut}
-use Rattle.ascii.specs.Spans.{LineSpansOf}
+use Rattle.ascii.specs.Spans.{LineSpansOf, PieceSpans}
 use Rattle.ascii.specs.Trim.{IsSpan, TrimsEnd, TrimsStart}
 use Rattle.ascii.specs.View.{debug_text, text_of}
 
@@ -147,6 +147,14 @@ in_whole part = (part.whole, record { start = part.start; item = part_text part 
 abbrev pub parts_of : Part → List (WithStart (List ℕ)) → List (AsciiStr × WithStart (List ℕ))
 parts_of part spans = map
     (λ span. (part.whole, record { start = part.start + span.start; item = span.item })) spans
+
+-- `parts` are the pieces of the text of `part` at `on`, each with the whole of `part` and its start
+-- in that
+pub record ArePiecesOf (on : ℕ) (part : Part) (parts : List (AsciiStr × WithStart (List ℕ)))
+    : Type 0 where
+  pub spans : List (WithStart (List ℕ))
+  pub pieces : PieceSpans 0 (part_text part) on spans
+  pub are : parts ≡ parts_of part spans
 
 -- `parts` are the lines of the text of `part` without their endings, each with the whole of `part`
 -- and its start in that

@@ -4,13 +4,15 @@ ghost use Rattle.std.specs.Iterator.{YieldsFirstBy, item_count};
 ghost use Rattle.std.specs.Prelude.{◌≡◌, List, map, ℕ};
 ghost use Rattle.ascii.specs.ByClass.{whole, word_spans_by};
 ghost use Rattle.ascii.specs.Parts.{WithStart};
+ghost use Rattle.ascii.specs.Code.{code_of};
 ghost use Rattle.ascii.specs.Placed.{body_in};
-ghost use Rattle.ascii_formats.specs.Parts.{AreLinesOf, YieldsPlace, in_whole, part_text};
-ghost use Rattle.ascii_formats.specs.Parts.{parts_of};
+ghost use Rattle.ascii_formats.specs.Parts.{AreLinesOf, ArePiecesOf, YieldsPlace, in_whole};
+ghost use Rattle.ascii_formats.specs.Parts.{part_text, parts_of};
 
 use crate::parts::Part;
+use ascii::AsciiChar;
 use ascii::classes::Searched;
-use ascii::iter::{AtWords, Cut, LineSpans, Spans};
+use ascii::iter::{AtChar, AtWords, Cut, LineSpans, Spans};
 use std::marker::Model;
 
 /// An iterator over texts of a view with their starts: `Spans` is one for each way to cut, and
@@ -42,8 +44,8 @@ impl TextSpans for LineSpans<'_> {
     }
 }
 
-/// An iterator over parts of a part: `Part::words` and `Part::lines` make one. `S` is the iterator of
-/// `ascii` that finds their texts.
+/// An iterator over parts of a part: `Part::split`, `Part::words` and `Part::lines` make one. `S` is the
+/// iterator of `ascii` that finds their texts.
 ///
 /// A contract sees it as the list of parts that it has yet to yield: each as its whole, and its text
 /// with its start.
@@ -96,6 +98,26 @@ impl<'a, S: TextSpans> Iterator for Parts<'a, S> {
 }
 
 impl<'a> Part<'a> {
+    /// Returns an iterator over the pieces of the part at each `on`, each as a part where it is. There is
+    /// at least one piece, and none contains `on`. The pieces are those of `AsciiStr::split`.
+    ///
+    /// Constant time; a full walk searches the part once.
+    ///
+    ///     let mut fields = Part::of(AsciiStr::literal("x: a,,b")).split_at(3).1.split(AsciiChar::Comma);
+    ///     fields.next() // Some(3..4 "a")
+    ///     fields.next() // Some(5..5 "")
+    ///     fields.next() // Some(6..7 "b")
+    ///     fields.next() // None
+    ///     Part::of(AsciiStr::literal("")).split(AsciiChar::Comma).next() // Some(0..0 "")
+    pub fn split(self, on: AsciiChar) -> Parts<'a, Spans<'a, AtChar>>
+        ensures { ArePiecesOf (code_of on) self.entry result }
+    {
+        Parts {
+            of: self,
+            spans: self.text().split_spans(on),
+        }
+    }
+
     /// Returns an iterator over the words of the part, each as a part where it is: the longest runs of
     /// characters that are not in the class. There are no empty words.
     ///

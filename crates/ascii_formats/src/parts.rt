@@ -11,7 +11,7 @@
 //! | `expect`, `expect_quoted` | what comes after a character, or a quoted text and what comes after it; or an error |
 //! | `strip_prefix`, `strip_prefix_char` | what comes after a prefix |
 //! | `quoted` | a quoted text and what comes after it, or why there is none |
-//! | `words`, `lines` | an iterator over the words or the lines, each as a part |
+//! | `split`, `words`, `lines` | an iterator over the pieces, the words or the lines, each as a part |
 //! | `to_number` | a number, or an error with the position in the whole text |
 //! | `line_and_column`, `fault` | the line and the column of the start; what is wrong there |
 //!

@@ -2,6 +2,7 @@ pub mod EntriesLemmas
 pub mod HeadLemmas
 pub mod PagerLemmas
 pub mod SeenLemmas
+pub mod SentenceLemmas
 pub mod SpellingLemmas
 pub mod TallyLemmas
 pub mod TokensLemmas

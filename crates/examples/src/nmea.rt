@@ -1,31 +1,39 @@
-//! Prints the position of each GGA sentence of the input, or why a line has none. A class of one's own has the
-//! characters of a payload.
+//! Prints the position of each GGA sentence of the input, or the place of what is at fault in it. A class of one's own
+//! has the characters of a payload.
 #![tactic(auto)]
 
-ghost use Rattle.std.specs.Prelude.{◌≡◌, ◌≤◌, IfOk, Some, slice_get};
+ghost use Rattle.std.specs.Prelude.{◌≡◌, ◌≤◌, IfErr, IfOk, Some};
 ghost use Rattle.std.specs.Int.{IsInRange};
 ghost use Rattle.std.proofs.Common.{rules};
-ghost use Rattle.ascii.specs.Pieces.{OfPieces};
 ghost use Rattle.ascii.specs.Trim.{IsSpan};
 ghost use Rattle.ascii.specs.View.{text_of};
-ghost use Rattle.examples.specs.Sentence.{HasDecimal, IsSentence, ReportsFix, xor_of};
+ghost use Rattle.ascii_formats.specs.Parts.{part_text};
+ghost use Rattle.examples.specs.Sentence.{FindsField, HasBody, HasDecimal, IsFaultIn, ReportsFix};
+ghost use Rattle.examples.specs.Sentence.{xor_of};
 
 use ascii::classes::{ByRanges, Ranges};
 use ascii::{AsciiChar, AsciiStr, text};
 use ascii_formats::AsciiStrExt;
 use ascii_formats::decimals::Decimal;
+use ascii_formats::parts::Part;
 use std::io::{self, Read};
 use thiserror::Error;
 
-/// Why a line has no position. A field is named by its index, counted from 0.
+/// Why a line has no position: the part at fault, and what is wrong with it.
+#[derive(Clone, Copy)]
+pub struct FixError<'a>(pub Part<'a>, pub What);
+
+/// What is wrong with a line, the body of a sentence or a field, which is named by its index, counted from 0.
 #[derive(Clone, Copy, Debug, Error)]
-pub enum FixError {
+pub enum What {
     #[error("not a sentence")]
     NoSentence,
     #[error("the checksum is {0:02X}")]
     WrongChecksum(u8),
     #[error("not a GGA sentence")]
     OtherSentence,
+    #[error("there is no field {0}")]
+    NoField(usize),
     #[error("field {0} is at fault")]
     Field(usize),
 }
@@ -41,38 +49,40 @@ pub struct Fix {
     pub altitude: Decimal,
 }
 
-/// Returns the position of a GGA sentence.
-pub fn read_fix(line: AsciiStr<'_>) -> Result<Fix, FixError>
-    ensures { IfOk result (ReportsFix (text_of line.entry)) }
+/// Returns the position of a GGA sentence, or an error with the part at fault.
+pub fn read_fix<'a>(line: Part<'a>) -> Result<Fix, FixError<'a>>
+    ensures fix { IfOk result (ReportsFix (part_text line.entry)) }
+    ensures fault { IfErr result (IsFaultIn line.entry) }
 {
     let body = checked_body(line)?;
-    if !field(body, 0)?.ends_with(AsciiStr::literal("GGA")) {
-        return Err(FixError::OtherSentence);
+    if !field(body, 0)?.text().ends_with(AsciiStr::literal("GGA")) {
+        return Err(FixError(line, What::OtherSentence));
     }
     Ok(Fix {
         latitude: decimal_in(body, 2)?,
         north: letter_in(body, 3, "N", "S")?,
         longitude: decimal_in(body, 4)?,
         east: letter_in(body, 5, "E", "W")?,
-        quality: field(body, 6)?
-            .to_number::<u8>()
-            .map_err(|_| FixError::Field(6))?,
+        quality: quality_in(body, 6)?,
         altitude: decimal_in(body, 9)?,
     })
 }
 
-/// Returns the text between `$` and `*hh`, if `hh` is its checksum.
-fn checked_body<'a>(line: AsciiStr<'a>) -> Result<AsciiStr<'a>, FixError>
-    ensures { IfOk result (λ body. IsSentence (text_of line.entry) (text_of body)) }
+/// Returns the part between `$` and `*hh`, if `hh` is its checksum.
+fn checked_body<'a>(line: Part<'a>) -> Result<Part<'a>, FixError<'a>>
+    ensures body { IfOk result (HasBody line.entry) }
+    ensures fault { IfErr result (IsFaultIn line.entry) }
 {
-    let missing = FixError::NoSentence;
+    let missing = FixError(line, What::NoSentence);
     let rest = line.strip_prefix_char(AsciiChar::Dollar).ok_or(missing)?;
-    let (body, digits) = rest.rsplit_once(AsciiChar::Asterisk).ok_or(missing)?;
-    let sum = digits.to_number_radix::<u8>(16).map_err(|_| missing)?;
-    match checksum(body) {
+    let (body, digits) = rest.split_once(AsciiChar::Asterisk).ok_or(missing)?;
+    let Ok(sum) = digits.text().to_number_radix::<u8>(16) else {
+        return Err(missing);
+    };
+    match checksum(body.text()) {
         _ if digits.len() != 2 => Err(missing),
         right if right == sum => Ok(body),
-        right => Err(FixError::WrongChecksum(right)),
+        right => Err(FixError(line, What::WrongChecksum(right))),
     }
 }
 
@@ -83,30 +93,52 @@ fn checksum(body: AsciiStr<'_>) -> u8
     body.as_bytes().iter().fold(0, |sum, byte| sum ^ *byte)
 }
 
-/// Returns the field at the index, counted from 0.
-fn field<'a>(body: AsciiStr<'a>, index: usize) -> Result<AsciiStr<'a>, FixError>
-    ensures { OfPieces body.entry AsciiChar.Comma
-        (λ pieces. IfOk result (λ field. slice_get pieces index ≡ Some (text_of field))) }
+/// Returns the field at the index, counted from 0, or an error if there is none.
+fn field<'a>(body: Part<'a>, index: usize) -> Result<Part<'a>, FixError<'a>>
+    ensures field { IfOk result (λ field. FindsField body.entry index (Some field)) }
+    ensures fault { (line : Part) → HasBody line body.entry → IfErr result (IsFaultIn line) }
 {
-    let mut fields = body.split(AsciiChar::Comma);
-    fields.nth(index).ok_or(FixError::Field(index))
+    match body.split(AsciiChar::Comma).nth(index) {
+        Some(field) => Ok(field),
+        None => Err(FixError(body, What::NoField(index))),
+    }
 }
 
 /// Returns the number in a field.
-fn decimal_in(body: AsciiStr<'_>, index: usize) -> Result<Decimal, FixError>
-    ensures { IfOk result (HasDecimal (text_of body.entry) index) }
+#[tactic(auto, using(crate::proofs::SentenceLemmas::field_text, crate::proofs::SentenceLemmas::at_fault))]
+fn decimal_in<'a>(body: Part<'a>, index: usize) -> Result<Decimal, FixError<'a>>
+    ensures number { IfOk result (HasDecimal (part_text body.entry) index) }
+    ensures fault { (line : Part) → HasBody line body.entry → IfErr result (IsFaultIn line) }
 {
-    field(body, index)?
-        .to_decimal()
-        .map_err(|_| FixError::Field(index))
+    let part = field(body, index)?;
+    match part.text().to_decimal() {
+        Ok(number) => Ok(number),
+        Err(_) => Err(FixError(part, What::Field(index))),
+    }
+}
+
+/// Returns the quality of the position in a field.
+#[tactic(auto, using(crate::proofs::SentenceLemmas::at_fault))]
+fn quality_in<'a>(body: Part<'a>, index: usize) -> Result<u8, FixError<'a>>
+    ensures fault { (line : Part) → HasBody line body.entry → IfErr result (IsFaultIn line) }
+{
+    let part = field(body, index)?;
+    match part.to_number::<u8>() {
+        Ok(quality) => Ok(quality),
+        Err(_) => Err(FixError(part, What::Field(index))),
+    }
 }
 
 /// Returns whether a field has the first of two letters.
-fn letter_in(body: AsciiStr<'_>, index: usize, yes: &str, no: &str) -> Result<bool, FixError> {
-    match field(body, index)? {
+#[tactic(auto, using(crate::proofs::SentenceLemmas::at_fault))]
+fn letter_in<'a>(body: Part<'a>, index: usize, yes: &str, no: &str) -> Result<bool, FixError<'a>>
+    ensures fault { (line : Part) → HasBody line body.entry → IfErr result (IsFaultIn line) }
+{
+    let part = field(body, index)?;
+    match part.text() {
         letter if letter.eq_str(yes) => Ok(true),
         letter if letter.eq_str(no) => Ok(false),
-        _ => Err(FixError::Field(index)),
+        _ => Err(FixError(part, What::Field(index))),
     }
 }
 
@@ -145,7 +177,7 @@ pub fn main(rt: HostRuntime) -> io::Result<()> {
         Ok(view) => view,
         Err(error) => return println!(rt; "{error}"),
     };
-    for line in view.lines() {
+    for line in Part::of(view).lines() {
         match read_fix(line) {
             Ok(fix) => println!(rt;
                 "{}{} {}{} at {} m, quality {}",
@@ -156,8 +188,10 @@ pub fn main(rt: HostRuntime) -> io::Result<()> {
                 fix.altitude,
                 fix.quality
             )?,
-            Err(FixError::NoSentence) => println!(rt; "payload {}", payload_of(line).0)?,
-            Err(error) => println!(rt; "{error}")?,
+            Err(FixError(_, What::NoSentence)) => {
+                println!(rt; "payload {}", payload_of(line.text()).0)?
+            }
+            Err(FixError(part, what)) => println!(rt; "{}", part.fault(what))?,
         }
     }
     Ok(())

@@ -60,6 +60,7 @@ fn part_by<'a>(part: Part<'a>, step: Step, texts: AsciiStr) -> Result<Part<'a>, 
         19 => Ok(part.split_once_by::<Digit>().ok_or(NOTHING)?.0),
         20 => Ok(part.split_once_by::<Digit>().ok_or(NOTHING)?.1),
         21 => part.lines().nth(step.at).ok_or(NOTHING),
+        22 => part.split(ch).nth(step.at).ok_or(NOTHING),
         _ => part.expect(ch).ok().ok_or(NOTHING),
     }
 }
