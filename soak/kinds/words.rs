@@ -92,7 +92,8 @@ fn text_answers(is_in: fn(u8) -> bool, text: &[u8], script: &[u8], want: &mut An
     let start = first.unwrap_or(text.len());
     let end = text.iter().rposition(|byte| !is_in(*byte)).map_or(0, |last| last + 1);
     want.put((&text[..start], &text[start..]));
-    want.put(text.iter().position(|byte| is_in(*byte)));
+    let member = text.iter().position(|byte| is_in(*byte));
+    want.put((member, member.map(|at| (&text[..at], &text[at + 1..]))));
     want.put((&text[start.min(end)..end], &text[start..], &text[..end]));
     put_both(walk_words(text, words_of(text, is_in), script), want);
     put_both(walk_words(text, words_of(text, |byte| !is_in(byte)), script), want);

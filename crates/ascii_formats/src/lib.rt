@@ -10,7 +10,7 @@
 //! | a whole number, in a radix, or at the start of a view | `to_number`, `to_number_radix`, `take_number` |
 //! | a decimal number | `to_decimal` |
 //! | the first character of a view, or what comes after it | `split_first`, `starts_with_char`, `strip_prefix_char` |
-//! | the first character in a class | `find_by` |
+//! | the first character in a class, and the sides of a cut there | `find_by`, `split_once_by` |
 //! | a quoted text at the start of a view, and what it represents | `take_quoted`, `unquote` |
 //! | a view in escapes or in caret notation; escapes read back | `EscapeAscii`, `Caret`; `unescape` |
 //! | a part that keeps its position, for parsers; a line and a column | `Part`; `line_and_column`, `fault_at` |

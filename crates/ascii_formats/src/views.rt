@@ -10,6 +10,7 @@ ghost use Rattle.ascii.specs.View.{text_of};
 ghost use Rattle.ascii_formats.specs.Decimals.{IsDecimalFault, WritesDecimal};
 ghost use Rattle.ascii_formats.specs.Numbers.{IsFaultIn, IsStartFault, StartsWithNumber};
 ghost use Rattle.ascii_formats.specs.Numbers.{WritesNumberIn};
+ghost use Rattle.ascii_formats.specs.Parts.{IsCutBy};
 ghost use Rattle.ascii_formats.specs.Places.{place_at};
 ghost use Rattle.ascii_formats.specs.Quotes.{IsQuoteFault, StartsQuoted, unquoted};
 ghost use Rattle.ascii_formats.specs.Unescape.{IsUnescapeFault, Unescapes};
@@ -59,7 +60,7 @@ pub trait AsciiStrExt: Sized {
     /// character is in it.
     ///
     /// Scans the view once, 32 bytes at a time. For the first character that is not in the class use
-    /// `first_not`; for one character, `position`; to cut a part there, `Part::split_once_by`.
+    /// `first_not`; for one character, `position`; to cut there, `split_once_by`.
     ///
     ///     AsciiStr::literal("px42").find_by::<Digit>() // Some(2)
     ///     AsciiStr::literal("px").find_by::<Digit>() // None
@@ -67,6 +68,18 @@ pub trait AsciiStrExt: Sized {
     fn find_by<C: Searched>(self) -> Option<usize>
         ensures { let text = codes self in
             MatchOption result (IsOutside C.is text) (IsFirstOf C.is text 0 (length text)) };
+
+    /// Returns the views before and after the first character of the view that is in the class, or
+    /// `None` if no character is in it. That character is in neither view.
+    ///
+    /// Scans the view once, 32 bytes at a time. For one character use `split_once`; for sides that keep
+    /// their places, `Part::split_once_by`.
+    ///
+    ///     AsciiStr::literal("a\tb c").split_once_by::<Blank>() // Some(("a", "b c"))
+    ///     AsciiStr::literal("ab").split_once_by::<Blank>() // None
+    fn split_once_by<C: Searched>(self) -> Option<(Self, Self)>
+        ensures { let text = codes self in MatchOption result (IsOutside C.is text)
+            (λ sides. IsCutBy C.is text (codes sides.0) (codes sides.1)) };
 
     /// Returns the number that the decimal digits of the view write, or an error with the first
     /// position at fault.
@@ -245,6 +258,15 @@ impl<'a> AsciiStrExt for AsciiStr<'a> {
 
     fn find_by<C: Searched>(self) -> Option<usize> {
         kernels::first_of::<C>(self.as_bytes())
+    }
+
+    #[tactic(auto, using(crate::proofs::PartsLemmas::cut_by))]
+    fn split_once_by<C: Searched>(self) -> Option<(AsciiStr<'a>, AsciiStr<'a>)> {
+        let at = self.find_by::<C>()?;
+        Some((
+            self.slice(AsciiRange::To(at)),
+            self.slice(AsciiRange::From(at + 1)),
+        ))
     }
 
     fn to_number<N: Number>(self) -> Result<N, NumberError> {

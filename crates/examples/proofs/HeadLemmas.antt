@@ -1,7 +1,7 @@
--- Where an authority ends, and one more header with a name that no header before it has.
+-- One more header with a name that no header before it has.
 use Rattle.std.proofs.Common.{◌≡◌, ◌∙◌, ◌+◌, ℕ, List, [], ◌∷◌, ◌++◌, None, Option, Some, ap, arith}
-use Rattle.std.proofs.Common.{◌<◌, MatchOption, get_or, inl, inr, length, length-append, reverse, subst}
-use Rattle.std.proofs.Common.{codes, map, refl, sym, take, unwrap_or}
+use Rattle.std.proofs.Common.{◌<◌, codes, get_or, length, length-append, map, refl, reverse, subst}
+use Rattle.std.proofs.Common.{sym, take}
 use Rattle.std.specs.List.{All, flat_map, join_by}
 use Rattle.std.specs.Option.{option_map}
 use Rattle.std.proofs.lemmas.List.{map-append, reverse-append, reverse-reverse, take_all}
@@ -9,26 +9,15 @@ use Rattle.std.proofs.lemmas.List.Elements.{All-append, All-cons, All-head, All-
 use Rattle.std.proofs.lemmas.List.Quantifiers.{all_pairs_push}
 use Rattle.std.proofs.lemmas.Option.{slice_get-get_or}
 use Rattle.ascii.proofs.ListLemmas.{AllZip-push}
-use Rattle.ascii.specs.ByClass.{IsOutside}
-use Rattle.ascii.specs.Bytes.{IsFirstOf}
 use Rattle.ascii.specs.Case.{lower_image}
 use Rattle.ascii.specs.View.{text_of}
 use Rattle.ascii.specs.declared.ascii_str.AsciiStr.{AsciiStr}
-use Rattle.ascii_formats.proofs.PartsLemmas.{cut_by}
 use Rattle.ascii_keys.specs.Maps.{Changes, Entries, folded_value_at, same_folded}
 use Rattle.ascii_lines.specs.declared.owned_lines.OwnedLine.{OwnedLine}
 use Rattle.cookbook.specs.Headers.{FindsHeader, IsNamed}
 use Rattle.cookbook.specs.declared.headers.Header.{Header}
 use Rattle.cookbook.proofs.HeaderMapLemmas.{values_next}
-use Rattle.examples.specs.Head.{AreHeaders, BeginsWithAuthority, EndsAuthority, IsHeaderOf, StopsAt}
-
--- what a text has before the first code that ends an authority
-pub authority_to : (text : List ℕ) (found : Option ℕ)
-    → MatchOption found (IsOutside EndsAuthority text)
-    (IsFirstOf EndsAuthority text 0 (length text))
-    → BeginsWithAuthority text (take (unwrap_or found (length text)) text)
-authority_to text None outside = inr (take_all (length text) text (grind arith), outside)
-authority_to text (Some at) first = inl (_, cut_by EndsAuthority text at first)
+use Rattle.examples.specs.Head.{AreHeaders, IsHeaderOf, StopsAt}
 
 -- what is true of each item is true of each item of the reversed list
 all_reversed : {A : Type 0} (Is : A → Type 0) (items : List A) → All Is items

@@ -89,16 +89,16 @@ pub fn read_request_line<'a>(line: AsciiStr<'a>) -> Option<RequestLine<'a>>
 
 /// Returns the authority of a target that begins with `http://`, in any case, or `None` if it does not: that of
 /// `http://a.example:80/b?c` is `a.example:80`.
-#[tactic(auto, using(crate::proofs::HeadLemmas::authority_to))]
 pub fn authority_of<'a>(target: AsciiStr<'a>) -> Option<AsciiStr<'a>>
     ensures { let text = text_of target.entry in MatchOption result
         (¬ (IgnoringCase (λ start. StartsWith start text) (codes "http://")))
         (λ authority. HasAuthority text (text_of authority)) }
 {
     let rest = target.strip_prefix_ignore_ascii_case(AsciiStr::literal("http://"))?;
-    let end = rest.find_by::<AuthorityEnd>().unwrap_or(rest.len());
-    let (authority, _) = rest.split_at(end);
-    Some(authority)
+    match rest.split_once_by::<AuthorityEnd>() {
+        Some((authority, _)) => Some(authority),
+        None => Some(rest),
+    }
 }
 
 /// Returns the value of the header of each line by its name, ignoring ASCII case, or an error with the first line that

@@ -18,7 +18,8 @@ use std::alloc::Global;
 ///
 /// Which of the bytes are in the class, the first and the last one that is not and that is, and the ends of the run outside
 /// it at either end; and of a text the first character that is not in it, whether all are, its run at the start, the first
-/// character that is in it, the text without the class at its ends, and its words, runs and pieces by a script.
+/// character that is in it and the sides of a cut there, the text without the class at its ends, and its words, runs and
+/// pieces by a script.
 pub fn ask_class(class: u8, source: &[u8], script: &[u8], answer: &mut Answer) {
     match class {
         0 => search::<Ascii>(source, script, answer),
@@ -56,7 +57,7 @@ fn search<C: Searched>(source: &[u8], script: &[u8], answer: &mut Answer) {
     answer.put((end, kernels::run_start::<C>(source, source.len(), false)));
     if let Ok(view) = bytes::as_ascii_str(source) {
         answer.put((view.first_not::<C>(), view.is_all::<C>(), view.span::<C>()));
-        answer.put(view.find_by::<C>());
+        answer.put((view.find_by::<C>(), view.split_once_by::<C>()));
         let (both, start) = (view.trim_matches::<C>(), view.trim_start_matches::<C>());
         answer.put((both, start, view.trim_end_matches::<C>()));
         put_items(view.words::<C>(), script, answer);
