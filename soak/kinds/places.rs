@@ -44,21 +44,20 @@ fn quoted_parts(text: &[u8], (start, end): Part, quote: u8, escape: u8) -> Resul
 /// The part that a step takes: `part_by` in `crates/exports/src/places.rt` says which.
 fn part_by(text: &[u8], part: Part, step: Step, prefix: &[u8]) -> Result<Part, Option<usize>> {
     let (start, end) = part;
-    let words = text[start..end].split(u8::is_ascii_digit);
-    let lines = std::str::from_utf8(&text[start..end]).expect("ASCII").lines();
-    let pieces = text[start..end].split(|byte| *byte == step.code);
-    let found = text[start..end].iter().position(|byte| *byte == step.code).map(|at| start + at);
-    let digit = text[start..end].iter().position(u8::is_ascii_digit).map(|at| start + at);
+    let own = &text[start..end];
+    let lines = std::str::from_utf8(own).expect("ASCII").lines();
+    let found = own.iter().position(|byte| *byte == step.code).map(|at| start + at);
+    let digit = own.iter().position(u8::is_ascii_digit).map(|at| start + at);
     let mid = (step.at <= end - start).then(|| start + step.at);
     let counted = mid.filter(|mid| text[start..*mid].iter().all(u8::is_ascii_digit));
-    let digits = text[start..end].iter().position(|byte| !byte.is_ascii_digit()).map_or(end, |at| start + at);
+    let digits = own.iter().position(|byte| !byte.is_ascii_digit()).map_or(end, |at| start + at);
     match step.kind {
         0 => Ok(trimmed(text, part, is_white)),
         1 => Ok((start, found.ok_or(NOTHING)?)),
         2 => Ok((found.ok_or(NOTHING)? + 1, end)),
         3 => Ok((start, mid.ok_or(NOTHING)?)),
         4 => Ok((mid.ok_or(NOTHING)?, end)),
-        5 => text[start..end].starts_with(prefix).then(|| (start + prefix.len(), end)).ok_or(NOTHING),
+        5 => own.starts_with(prefix).then(|| (start + prefix.len(), end)).ok_or(NOTHING),
         6 => Ok((start, digits)),
         7 => Ok((digits, end)),
         8 => Ok(quoted_parts(text, part, step.code, b'\\')?.0),
@@ -69,12 +68,12 @@ fn part_by(text: &[u8], part: Part, step: Step, prefix: &[u8]) -> Result<Part, O
         13 => Ok((start, counted.ok_or(NOTHING)?)),
         14 => Ok((counted.ok_or(NOTHING)?, end)),
         15 => Ok(quoted_parts(text, part, step.code, step.code).map_err(|_| NOTHING)?.1),
-        16 => nth_of(text, words.filter(|word| !word.is_empty()), step.at).ok_or(NOTHING),
+        16 => nth_of(text, own.split(u8::is_ascii_digit).filter(|word| !word.is_empty()), step.at).ok_or(NOTHING),
         17 => Ok(trimmed(text, part, |byte| byte.is_ascii_digit())),
         19 => Ok((start, digit.ok_or(NOTHING)?)),
         20 => Ok((digit.ok_or(NOTHING)? + 1, end)),
         21 => nth_of(text, lines.map(str::as_bytes), step.at).ok_or(NOTHING),
-        22 => nth_of(text, pieces, step.at).ok_or(NOTHING),
+        22 => nth_of(text, own.split(|byte| *byte == step.code), step.at).ok_or(NOTHING),
         _ => (start < digits && digits - start <= step.at).then_some((digits, end)).ok_or(NOTHING),
     }
 }

@@ -414,8 +414,7 @@ const BOUNDED_NAMES: [&str; BOUNDED] = ["copy", "lines", "caret", "json", "upper
 const NAMES: [&str; 8] = ["copy", "lines", "tac", "caret", "ends", "ends", "json", "edit"];
 
 fn names(rows: &mut Rows) {
-    let others = ["", "cop", "copy ", "COPY", "Lines", "check", "spans", "usage"];
-    for word in BOUNDED_NAMES.into_iter().chain(NAMES).chain(others) {
+    for word in BOUNDED_NAMES.into_iter().chain(NAMES).chain(["", "cop", "copy ", "COPY", "Lines", "check", "spans", "usage"]) {
         rows.ask(|asked| {
             calls::ask_mode_names(asked, word.as_bytes());
             asked.want.all(BOUNDED_NAMES.iter().chain(&BOUNDED_NAMES).chain(&NAMES));
@@ -426,7 +425,6 @@ fn names(rows: &mut Rows) {
     }
     // So that `expected` and the modes have the same numbers.
     for mode in 0..7 {
-        let expected = expected(mode.into(), INPUT, SCRIPT);
-        rows.expect(expected, |asked| calls::ask_engine(asked, mode, SCRIPT, INPUT, &WHOLE, &WHOLE));
+        rows.expect(expected(mode.into(), INPUT, SCRIPT), |asked| calls::ask_engine(asked, mode, SCRIPT, INPUT, &WHOLE, &WHOLE));
     }
 }
