@@ -139,20 +139,26 @@ pub fn name_list(
 
 /// Prints the host of a request, the names of its headers and the charset of its content, or why there are none.
 fn show_headers(rt: &HostRuntime, target: AsciiStr<'_>, lines: &[OwnedLine]) -> io::Result<()> {
-    let headers = match read_headers(rt.alloc(), lines) {
-        Ok(found) => found,
-        Err(HeadersError::NotHeader(index, error)) => {
-            return println!(rt; "header {index}: {error}");
-        }
-        Err(HeadersError::Twice(index)) => return println!(rt; "header {index} comes twice"),
-        Err(HeadersError::Memory) => return println!(rt; "no memory"),
-    };
+    match read_headers(rt.alloc(), lines) {
+        Ok(headers) => show_found(rt, target, &headers),
+        Err(HeadersError::NotHeader(index, error)) => println!(rt; "header {index}: {error}"),
+        Err(HeadersError::Twice(index)) => println!(rt; "header {index} comes twice"),
+        Err(HeadersError::Memory) => println!(rt; "no memory"),
+    }
+}
+
+/// Prints the host of a request, the names of its headers and the charset of its content.
+fn show_found(
+    rt: &HostRuntime,
+    target: AsciiStr<'_>,
+    headers: &FoldedMap<AsciiStr<'_>>,
+) -> io::Result<()> {
     let named = headers.get(AsciiStr::literal("host")).copied();
     match authority_of(target).or(named) {
         Some(host) => println!(rt; "host {host}")?,
         None => println!(rt; "no host")?,
     }
-    println!(rt; "headers {}", name_list(rt.alloc(), &headers)?)?;
+    println!(rt; "headers {}", name_list(rt.alloc(), headers)?)?;
     match headers.get(AsciiStr::literal("content-type")) {
         Some(value) => show_charset(rt, *value),
         None => Ok(()),

@@ -82,11 +82,22 @@ pub fn main(rt: HostRuntime) -> io::Result<()> {
     };
     let known = read_words(rt.alloc(), list.text())?;
     let unknown = unknown_words(rt.alloc(), rest, &known)?;
-    for word in &unknown {
+    show_places(&rt, unknown.as_slice())?;
+    let unique = unique_words(rt.alloc(), &unknown)?;
+    show_unique(&rt, &unique)
+}
+
+/// Prints words, each with its line and column.
+fn show_places(rt: &HostRuntime, words: &[Part<'_>]) -> io::Result<()> {
+    for word in words {
         println!(rt; "{}: {word}", word.line_and_column())?;
     }
-    let unique = unique_words(rt.alloc(), &unknown)?;
-    for word in unique.iter() {
+    Ok(())
+}
+
+/// Prints the words of a set.
+fn show_unique(rt: &HostRuntime, words: &FoldedSet) -> io::Result<()> {
+    for word in words.iter() {
         println!(rt; "{word}")?;
     }
     Ok(())

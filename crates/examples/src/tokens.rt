@@ -176,19 +176,30 @@ pub fn main(rt: HostRuntime) -> io::Result<()> {
     };
     match read_tokens(rt.alloc(), view) {
         Ok(tokens) => {
-            for token in &tokens {
-                if token.kind != Kind::Space {
-                    let place = token.part.line_and_column();
-                    println!(rt; "{place}: {:?} {}", token.kind, token.part)?;
-                }
-            }
+            show_tokens(&rt, tokens.as_slice())?;
             let words = unique_words(rt.alloc(), &tokens)?;
-            for word in words.iter() {
-                println!(rt; "{word}")?;
-            }
-            Ok(())
+            show_words(&rt, &words)
         }
         Err(ParseError::At(part, what)) => println!(rt; "{}", part.fault(what)),
         Err(ParseError::Memory) => println!(rt; "no memory"),
     }
+}
+
+/// Prints tokens but spaces, each with its line and column.
+fn show_tokens(rt: &HostRuntime, tokens: &[Token<'_>]) -> io::Result<()> {
+    for token in tokens {
+        if token.kind != Kind::Space {
+            let place = token.part.line_and_column();
+            println!(rt; "{place}: {:?} {}", token.kind, token.part)?;
+        }
+    }
+    Ok(())
+}
+
+/// Prints the words of a set.
+fn show_words(rt: &HostRuntime, words: &AsciiSet) -> io::Result<()> {
+    for word in words.iter() {
+        println!(rt; "{word}")?;
+    }
+    Ok(())
 }
