@@ -1,5 +1,5 @@
 #!/usr/bin/env python3
-"""usage: tools/check/dear.py CRATE [NAME..]
+"""usage: tools/check/slowest.py CRATE [NAME..]
 Prints how many seconds the check of each function of a crate takes, and of each file of definitions or lemmas, the longest
 first; of the named functions and modules alone, if there are names. It checks them over the libraries below as `rt ci` or
 `rt lib` built them, in a folder of its own, and reads when each part of the check was written there.
@@ -41,15 +41,15 @@ def seconds_of(parts, crate):
 def main(crate, *names):
     uses, _ = libraries.listed()
     if crate not in uses:
-        print(f"dear.py: {crate} is not a crate of crates.txt", file=sys.stderr)
+        print(f"slowest.py: {crate} is not a crate of crates.txt", file=sys.stderr)
         return 64
     if not libraries.kit():
-        print("dear.py: the toolchain's command rt is not on PATH", file=sys.stderr)
+        print("slowest.py: the toolchain's command rt is not on PATH", file=sys.stderr)
         return 69
     if not libraries.are_built(libraries.below(crate, uses)):
-        print("dear.py: a library below is not built: run rt ci, or rt lib in its folder", file=sys.stderr)
+        print("slowest.py: a library below is not built: run rt ci, or rt lib in its folder", file=sys.stderr)
         return 70
-    with tempfile.TemporaryDirectory(prefix="dear-") as scratch:
+    with tempfile.TemporaryDirectory(prefix="slowest-") as scratch:
         checks = Checks(crate, Path(libraries.folder_of(crate)), Path(scratch))
         said = checks.check(names)
         parts = {it.stem: os.path.getmtime(it) for it in checks.kept.rglob("*.oantt")}
