@@ -56,9 +56,10 @@ build_once() {
   is_built "$1" || build "$1" 9>&-
 }
 
-# Ends with a status, after what still runs was stopped and nothing was left.
+# Ends with a status, after what still runs was stopped and nothing was left. Another signal does not stop it: what is left
+# beside a build that counts is removed by no later call.
 stop() {
-  trap - HUP INT QUIT TERM
+  trap '' HUP INT QUIT TERM
   [ -z "$group" ] || kill -TERM "-$group" 2>/dev/null || true
   [ -z "$scratch" ] || rm -rf "$scratch"
   exit "$1"

@@ -104,6 +104,9 @@ class Commands(unittest.TestCase):
         self.interrupt("release", self.made / "archive.tar.gz")
 
     def test_build(self):
+        # Over a slow `rm`, some moments are while the folder of a build that counts is removed.
+        (self.top / "bin" / "rm").write_text(f"#!/bin/sh\nsleep 0.05\nexec {shutil.which('rm')} \"$@\"\n")
+        (self.top / "bin" / "rm").chmod(0o755)
         self.interrupt("ascii_filter", "--build", made=self.source / "crates" / "ascii_filter" / "out")
 
     def test_install(self):
