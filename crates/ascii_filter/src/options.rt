@@ -229,56 +229,69 @@ Examples:
   ascii_filter --other=replace json  Such a copy of standard input as a JSON string
   ascii_filter --other=escape lines  The lines of standard input, with `\\xNN` for such a byte";
 
+/// What the help says of each option.
+const COUNT_HELP: &str = "check: write the number of bytes above 127 of each file";
+
+const QUIET_HELP: &str = "check: write nothing, and stop at the first of them";
+
+const NULL_HELP: &str = "check: write NUL in place of the colon after each name, and quote no name";
+
+const OTHER_HELP: &str =
+    "The other modes: a byte above 127 ends what is written, or is read as `?` or as `\\xNN`";
+
 /// The command line of the program, with these names of modes.
 pub fn command<'a>(alloc: Global, names: &'a [&'a str]) -> Result<Command<'a>, AllocError> {
-    let mode = Arg::new(alloc, "MODE")
+    Command::new(alloc, "ascii_filter")
+        .version("0.1.0")
+        .about("Writes ASCII inputs of any length in one of several modes")
+        .after_help(AFTER_HELP)
+        .arg(mode_argument(alloc, names))?
+        .arg(files_argument(alloc))?
+        .arg(flag(alloc, "count", 'c', COUNT_HELP))?
+        .arg(max_option(alloc))?
+        .arg(flag(alloc, "quiet", 'q', QUIET_HELP))?
+        .arg(flag(alloc, "null", '0', NULL_HELP))?
+        .arg(other_option(alloc))
+}
+
+fn mode_argument<'a>(alloc: Global, names: &'a [&'a str]) -> Arg<'a> {
+    Arg::new(alloc, "MODE")
         .required(true)
         .action(ArgAction::Set)
         .value_parser(names)
-        .help("What is written of each input");
-    let files = Arg::new(alloc, "FILE")
+        .help("What is written of each input")
+}
+
+fn files_argument<'a>(alloc: Global) -> Arg<'a> {
+    Arg::new(alloc, "FILE")
         .action(ArgAction::Append)
         .default_value("-")
-        .help("The files to read, each as an input of its own; `-` is standard input");
-    let count = Arg::new(alloc, "count")
-        .short('c')
-        .long("count")
+        .help("The files to read, each as an input of its own; `-` is standard input")
+}
+
+fn flag<'a>(alloc: Global, name: &'a str, short: char, help: &'a str) -> Arg<'a> {
+    Arg::new(alloc, name)
+        .short(short)
+        .long(name)
         .action(ArgAction::SetTrue)
-        .help("check: write the number of bytes above 127 of each file");
-    let max = Arg::new(alloc, "max")
+        .help(help)
+}
+
+fn max_option<'a>(alloc: Global) -> Arg<'a> {
+    Arg::new(alloc, "max")
         .short('m')
         .long("max")
         .value_name("N")
         .action(ArgAction::Set)
         .value_parser(ValueParser::unsigned(1, u64::MAX))
-        .help("check: stop after N of them in a file");
-    let quiet = Arg::new(alloc, "quiet")
-        .short('q')
-        .long("quiet")
-        .action(ArgAction::SetTrue)
-        .help("check: write nothing, and stop at the first of them");
-    let null = Arg::new(alloc, "null")
-        .short('0')
-        .long("null")
-        .action(ArgAction::SetTrue)
-        .help("check: write NUL in place of the colon after each name, and quote no name");
-    let other = Arg::new(alloc, "other")
+        .help("check: stop after N of them in a file")
+}
+
+fn other_option<'a>(alloc: Global) -> Arg<'a> {
+    Arg::new(alloc, "other")
         .long("other")
         .value_name("WHAT")
         .action(ArgAction::Set)
         .value_parser(OTHERS.as_slice())
-        .help(
-            "The other modes: a byte above 127 ends what is written, or is read as `?` or as `\\xNN`",
-        );
-    Command::new(alloc, "ascii_filter")
-        .version("0.1.0")
-        .about("Writes ASCII inputs of any length in one of several modes")
-        .after_help(AFTER_HELP)
-        .arg(mode)?
-        .arg(files)?
-        .arg(count)?
-        .arg(max)?
-        .arg(quiet)?
-        .arg(null)?
-        .arg(other)
+        .help(OTHER_HELP)
 }
