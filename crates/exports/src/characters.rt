@@ -1,12 +1,13 @@
 //! Characters: conversions, tests and case.
 
-ghost use Rattle.std.specs.Prelude.{◌≤◌};
+ghost use Rattle.std.specs.Prelude.{◌<◌, ◌≤◌};
 
 use crate::answer::{Answer, Put};
 use ascii::{AsciiChar, AsciiStr, ToAsciiChar, ToAsciiCharError, caret_decode, caret_encode};
 use std::alloc::Global;
 use std::cmp::Ordering;
 use std::collections::HashSet;
+use std::hash::Hash;
 
 /// For each number: the character of that number as a `u8`, an `i8`, a `u16`, a `u32` and a `char`.
 pub fn ask_characters_of(numbers: &[i64], answer: &mut Answer) {
@@ -87,12 +88,14 @@ pub fn ask_character_conversions(alloc: Global, codes: &[u8], answer: &mut Answe
     for code in codes {
         match code.to_ascii_char() {
             Ok(ch) => put_conversions(*code, ch, answer),
-            Err(error) => {
-                answer.put(error);
-                answer.put_result(format!(in alloc; "{error} {error:?}"));
-            }
+            Err(error) => put_error(alloc, error, answer),
         }
     }
+}
+
+fn put_error(alloc: Global, error: ToAsciiCharError, answer: &mut Answer) {
+    answer.put(error);
+    answer.put_result(format!(in alloc; "{error} {error:?}"));
 }
 
 impl Put for ToAsciiCharError {
@@ -103,13 +106,7 @@ impl Put for ToAsciiCharError {
 
 fn put_conversions(code: u8, ch: AsciiChar, answer: &mut Answer) {
     if code < 128 {
-        let of_char = AsciiChar::new(code as char);
-        let of_byte = AsciiChar::from_ascii_unchecked(code);
-        answer.put((of_char, of_byte, code.to_ascii_char_unchecked()));
-        let of_signed = (code as i8).to_ascii_char_unchecked();
-        answer.put((of_signed, u16::from(code).to_ascii_char_unchecked()));
-        let of_word = u32::from(code).to_ascii_char_unchecked();
-        answer.put((of_word, (code as char).to_ascii_char_unchecked()));
+        put_unchecked(code, answer);
     }
     answer.put((ch.to_ascii_char().ok(), ch.to_ascii_char_unchecked()));
     let mut upper: AsciiChar = ch;
@@ -121,13 +118,29 @@ fn put_conversions(code: u8, ch: AsciiChar, answer: &mut Answer) {
     answer.put((u8::from(ch), number, u32::from(char::from(ch))));
 }
 
+fn put_unchecked(code: u8, answer: &mut Answer)
+    requires { code < 128 }
+{
+    let of_char = AsciiChar::new(code as char);
+    let of_byte = AsciiChar::from_ascii_unchecked(code);
+    answer.put((of_char, of_byte, code.to_ascii_char_unchecked()));
+    let of_signed = (code as i8).to_ascii_char_unchecked();
+    answer.put((of_signed, u16::from(code).to_ascii_char_unchecked()));
+    let of_word = u32::from(code).to_ascii_char_unchecked();
+    answer.put((of_word, (code as char).to_ascii_char_unchecked()));
+}
+
 /// For each ASCII code, whether a set of std lacks the characters before it; and how many are in the set then.
 pub fn ask_character_set(alloc: Global, codes: AsciiStr, answer: &mut Answer) {
     let mut seen = HashSet::new(alloc);
     for ch in codes.chars() {
-        answer.put_result(seen.insert(ch));
+        put_seen(&mut seen, ch, answer);
     }
     answer.put(seen.len());
+}
+
+fn put_seen<K: Eq + Hash + Drop>(seen: &mut HashSet<K>, key: K, answer: &mut Answer) {
+    answer.put_result(seen.insert(key));
 }
 
 /// For each byte: what it is in caret notation, and what it is read as there.

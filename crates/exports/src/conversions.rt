@@ -114,23 +114,19 @@ pub fn ask_collected(
     answer: &mut Answer,
 ) {
     answer.put_result(AsciiString::collect_strs(alloc, source.split(on)));
-    match first.to_ascii_string(alloc) {
-        Ok(mut string) => {
-            answer.put((string.extend_strs(source.lines()).is_ok(), string));
-        }
-        Err(error) => answer.put(error),
-    }
+    let Ok(mut string) = first.to_ascii_string(alloc) else {
+        return answer.put(AllocError);
+    };
+    answer.put((string.extend_strs(source.lines()).is_ok(), string));
 }
 
 /// The two parts of a string and of a view that are cut at a position.
 pub fn ask_split_off(alloc: Global, at: usize, source: AsciiStr, answer: &mut Answer) {
-    match source.to_ascii_string(alloc) {
-        Ok(mut string) => {
-            if at <= string.len() {
-                answer.put_result(string.split_off(at));
-                answer.put((string, source.split_at(at)));
-            }
-        }
-        Err(error) => answer.put(error),
+    let Ok(mut string) = source.to_ascii_string(alloc) else {
+        return answer.put(AllocError);
+    };
+    if at <= string.len() {
+        answer.put_result(string.split_off(at));
+        answer.put((string, source.split_at(at)));
     }
 }

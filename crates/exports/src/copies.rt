@@ -4,8 +4,8 @@ use crate::answer::{Answer, Made, Put};
 use crate::edits::commands;
 use crate::steps::Step;
 use ascii::{
-    AsciiChar, AsciiRange, AsciiStr, AsciiString, BoxedAsciiStr, Buffer, CowAsciiStr, RcAsciiStr,
-    Text,
+    AsciiChar, AsciiRange, AsciiStr, AsciiString, BoxedAsciiStr, Buffer, CloneBuffer, CowAsciiStr,
+    RcAsciiStr, Text,
 };
 use ascii_formats::AsciiStringExt;
 use ascii_run::{ArrayAsciiString, BothRuns, SmallAsciiString, run_both};
@@ -19,13 +19,15 @@ pub fn ask_copies(alloc: Global, source: AsciiStr, answer: &mut Answer) {
     answer.put_result(through_list(alloc, source));
     answer.put_result(BoxedAsciiStr::from_ascii_str(alloc, source));
     answer.put_result(shared_clone(alloc, source));
-    match SmallAsciiString::from_ascii_str(alloc, source) {
-        Ok(small) => {
-            answer.put_result(small.clone());
-            answer.put(small);
-        }
-        Err(error) => answer.put(error),
-    }
+    put_with_clone(SmallAsciiString::from_ascii_str(alloc, source), answer);
+}
+
+fn put_with_clone<B: CloneBuffer>(made: Made<Text<B>>, answer: &mut Answer) {
+    let Ok(string) = made else {
+        return answer.put(AllocError);
+    };
+    answer.put(string.clone().map_err(|_| AllocError));
+    answer.put(string);
 }
 
 fn through_list(alloc: Global, view: AsciiStr) -> Made<AsciiString> {
@@ -93,48 +95,57 @@ pub fn ask_growths(alloc: Global, form: u8, source: AsciiStr, answer: &mut Answe
     for number in 0..13 {
         match form {
             0 => put_growth(source.to_ascii_string(alloc), number, answer),
-            1 => {
-                let small = SmallAsciiString::from_ascii_str(alloc, source);
-                put_growth(small, number, answer);
-            }
-            _ => {
-                let array = ArrayAsciiString::<100>::from_ascii_str((), source);
-                put_growth(array.map_err(|_| AllocError), number, answer);
-            }
+            1 => put_growth(
+                SmallAsciiString::from_ascii_str(alloc, source),
+                number,
+                answer,
+            ),
+            _ => put_array_growth(source, number, answer),
         }
     }
 }
 
+fn put_array_growth(source: AsciiStr, number: u8, answer: &mut Answer) {
+    let array = ArrayAsciiString::<100>::from_ascii_str((), source);
+    put_growth(array.map_err(|_| AllocError), number, answer);
+}
+
 fn put_growth<B: Buffer>(made: Made<Text<B>>, number: u8, answer: &mut Answer) {
-    match made {
-        Ok(mut string) => {
-            answer.put((grow(&mut string, number), string.as_ascii_str()));
-            answer.put((string.push(AsciiChar::z).is_ok(), string));
-        }
-        Err(error) => answer.put(error),
-    }
+    let Ok(mut string) = made else {
+        return answer.put(AllocError);
+    };
+    answer.put((grow(&mut string, number), string.as_ascii_str()));
+    answer.put((string.push(AsciiChar::z).is_ok(), string));
 }
 
 /// Edits a string, and returns whether there was memory for that.
 fn grow<B: Buffer>(string: &mut Text<B>, number: u8) -> bool {
-    let two = AsciiStr::literal("ww");
     match number {
-        0 => string.push(AsciiChar::y).is_ok(),
-        1 => string.push_str(two).is_ok(),
-        2 => string.push_decimal(42u64).is_ok(),
-        3 => string
-            .push_padded(AsciiStr::literal("y"), 2, AsciiChar::x, Alignment::Right)
+        0..7 => edit(string, number).is_ok(),
+        7 => string
+            .replace_range(AsciiRange::To(0), AsciiStr::literal("ww"))
             .is_ok(),
-        4 => string.push_hex(10, 2).is_ok(),
-        5 => string.insert(0, AsciiChar::w).is_ok(),
-        6 => string.insert_str(0, two).is_ok(),
-        7 => string.replace_range(AsciiRange::To(0), two).is_ok(),
-        8 => string.extend_strs(two.split(AsciiChar::Comma)).is_ok(),
+        8 => string
+            .extend_strs(AsciiStr::literal("ww").split(AsciiChar::Comma))
+            .is_ok(),
         9 => string.write_str("yy").is_ok(),
         10 => string.write_char('y').is_ok(),
         11 if string.len() <= 100 => string.reserve(100).is_ok(),
         12 if string.len() <= 100 => string.reserve_exact(100).is_ok(),
         _ => true,
+    }
+}
+
+fn edit<B: Buffer>(string: &mut Text<B>, number: u8) -> Result<(), B::Refusal> {
+    let two = AsciiStr::literal("ww");
+    match number {
+        0 => string.push(AsciiChar::y),
+        1 => string.push_str(two),
+        2 => string.push_decimal(42u64),
+        3 => string.push_padded(AsciiStr::literal("y"), 2, AsciiChar::x, Alignment::Right),
+        4 => string.push_hex(10, 2),
+        5 => string.insert(0, AsciiChar::w),
+        _ => string.insert_str(0, two),
     }
 }
 
@@ -146,12 +157,10 @@ pub fn ask_formatted(
     second: AsciiStr,
     answer: &mut Answer,
 ) {
-    match source.to_ascii_string(alloc) {
-        Ok(mut string) => {
-            answer.put((write!(string, "{}-{}", first, second).is_ok(), string));
-        }
-        Err(error) => answer.put(error),
-    }
+    let Ok(mut string) = source.to_ascii_string(alloc) else {
+        return answer.put(AllocError);
+    };
+    answer.put((write!(string, "{}-{}", first, second).is_ok(), string));
 }
 
 /// The replies to commands and the text after them, of a string and of an inline string that are run by one call.

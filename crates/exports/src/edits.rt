@@ -34,13 +34,11 @@ fn put_run<B: AsciiBuf + Drop>(
     cmds: &[Cmd<'_>],
     answer: &mut Answer,
 ) {
-    match made {
-        Ok(mut buf) => {
-            answer.put_result(run(alloc, &mut buf, cmds));
-            answer.put(buf.as_ascii_str());
-        }
-        Err(error) => answer.put(error),
-    }
+    let Ok(mut buf) = made else {
+        return answer.put(AllocError);
+    };
+    answer.put_result(run(alloc, &mut buf, cmds));
+    answer.put(buf.as_ascii_str());
 }
 
 pub(crate) fn commands<'a>(
@@ -105,19 +103,17 @@ pub fn ask_capacities(
     steps: &[Step],
     answer: &mut Answer,
 ) {
-    match AsciiString::with_capacity(alloc, capacity) {
-        Ok(mut string) => {
-            answer.put(string.capacity());
-            for step in steps {
-                if step.kind == 19 {
-                    reserve_exactly(&mut string, step.at, answer);
-                } else {
-                    answer.put_result(run(alloc, &mut string, &[command(*step, texts)]));
-                }
-                answer.put(string.capacity());
-            }
+    let Ok(mut string) = AsciiString::with_capacity(alloc, capacity) else {
+        return answer.put(AllocError);
+    };
+    answer.put(string.capacity());
+    for step in steps {
+        if step.kind == 19 {
+            reserve_exactly(&mut string, step.at, answer);
+        } else {
+            answer.put_result(run(alloc, &mut string, &[command(*step, texts)]));
         }
-        Err(error) => answer.put(error),
+        answer.put(string.capacity());
     }
 }
 
@@ -136,14 +132,12 @@ pub fn ask_small_capacities(
     steps: &[Step],
     answer: &mut Answer,
 ) {
-    match SmallAsciiString::from_ascii_str(alloc, source) {
-        Ok(mut small) => {
-            answer.put((small.is_inline(), small.capacity()));
-            for step in steps {
-                answer.put_result(run(alloc, &mut small, &[command(*step, texts)]));
-                answer.put((small.is_inline(), small.capacity()));
-            }
-        }
-        Err(error) => answer.put(error),
+    let Ok(mut small) = SmallAsciiString::from_ascii_str(alloc, source) else {
+        return answer.put(AllocError);
+    };
+    answer.put((small.is_inline(), small.capacity()));
+    for step in steps {
+        answer.put_result(run(alloc, &mut small, &[command(*step, texts)]));
+        answer.put((small.is_inline(), small.capacity()));
     }
 }

@@ -6,6 +6,7 @@ use ascii::AsciiStr;
 use ascii_keys::{AsciiMap, AsciiSet, FoldedMap, FoldedSet, FoldedStr, FoldedString};
 use std::alloc::Global;
 use std::collections::{BTreeMap, HashMap};
+use std::hash::Hash;
 
 /// What steps over a map return, each with the length of the map: 0 inserts the number at the step's text, 1 gets, 2 removes,
 /// 3 adds the number to the one there, 4 yields all entries, and any other kind looks whether the key is there. First of a map
@@ -110,14 +111,13 @@ fn borrowed_keys<'a>(
     texts: AsciiStr<'a>,
     steps: &[Step],
 ) -> Made<(Found, AsciiStr<'a>)> {
-    let (mut hashed, mut sorted) = (HashMap::new(alloc), BTreeMap::new(alloc));
+    let mut pairs = Vec::new(alloc);
     for step in steps {
-        hashed.insert(FoldedStr::new(step.text(texts)), step.at)?;
-        sorted.insert(FoldedStr::new(step.text(texts)), step.at)?;
+        let text = step.text(texts);
+        pairs.push((FoldedStr::new(text), FoldedStr::new(text), step.at))?;
     }
     let key = FoldedStr::new(key);
-    let found = (hashed.get(&key).copied(), sorted.get(&key).copied());
-    Ok(((found, (hashed.len(), sorted.len())), key.into_inner()))
+    Ok((found(alloc, &key, pairs)?, key.into_inner()))
 }
 
 fn owned_keys<'a>(
@@ -126,15 +126,35 @@ fn owned_keys<'a>(
     texts: AsciiStr<'a>,
     steps: &[Step],
 ) -> Made<(Found, bool, FoldedString)> {
-    let (mut hashed, mut sorted) = (HashMap::new(alloc), BTreeMap::new(alloc));
-    for step in steps {
-        hashed.insert(owned_key(alloc, step.text(texts))?, step.at)?;
-        sorted.insert(owned_key(alloc, step.text(texts))?, step.at)?;
-    }
     let owned = owned_key(alloc, key)?;
-    let found = (hashed.get(&owned).copied(), sorted.get(&owned).copied());
+    let found = found(alloc, &owned, owned_pairs(alloc, texts, steps)?)?;
     let is_same = owned.as_folded() == FoldedStr::new(key);
-    Ok(((found, (hashed.len(), sorted.len())), is_same, owned))
+    Ok((found, is_same, owned))
+}
+
+/// The text of each step twice, each with its own memory, and the number of the step.
+fn owned_pairs(
+    alloc: Global,
+    texts: AsciiStr,
+    steps: &[Step],
+) -> Made<Vec<(FoldedString, FoldedString, usize)>> {
+    let mut pairs = Vec::new(alloc);
+    for step in steps {
+        let key = owned_key(alloc, step.text(texts))?;
+        pairs.push((key, owned_key(alloc, step.text(texts))?, step.at))?;
+    }
+    Ok(pairs)
+}
+
+/// What two maps have at a key: a hashed one with the first key of each pair, and a sorted one with the second.
+fn found<K: Hash + Ord + Drop>(alloc: Global, key: &K, pairs: Vec<(K, K, usize)>) -> Made<Found> {
+    let (mut hashed, mut sorted) = (HashMap::new(alloc), BTreeMap::new(alloc));
+    for (first, second, number) in pairs {
+        hashed.insert(first, number)?;
+        sorted.insert(second, number)?;
+    }
+    let found = (hashed.get(key).copied(), sorted.get(key).copied());
+    Ok((found, (hashed.len(), sorted.len())))
 }
 
 /// The text of a key that owns it, borrowed and owned.

@@ -39,30 +39,32 @@ fn part_by<'a>(part: Part<'a>, step: Step, texts: AsciiStr) -> Result<Part<'a>, 
     let ch = AsciiChar::from_ascii(step.code).ok().unwrap_or_default();
     match step.kind {
         0 => Ok(part.trim()),
-        1 => Ok(part.split_once(ch).ok_or(NOTHING)?.0),
-        2 => Ok(part.split_once(ch).ok_or(NOTHING)?.1),
-        3 => Ok(part_at(part, step.at).ok_or(NOTHING)?.0),
-        4 => Ok(part_at(part, step.at).ok_or(NOTHING)?.1),
+        1 | 2 => side(part.split_once(ch), step.kind == 1),
+        3 | 4 => side(part_at(part, step.at), step.kind == 3),
         5 => part.strip_prefix(step.text(texts)).ok_or(NOTHING),
-        6 => Ok(part.span::<Digit>().0),
-        7 => Ok(part.span::<Digit>().1),
-        8 => Ok(quoted_part(part, ch)?.0),
-        9 => Ok(quoted_part(part, ch)?.1),
+        6 | 7 => side(Some(part.span::<Digit>()), step.kind == 6),
+        8 | 9 => side(Some(quoted_part(part, ch)?), step.kind == 8),
         10 => part.strip_prefix_char(ch).ok_or(NOTHING),
-        11 => Ok(part.take_some::<Digit>().ok_or(NOTHING)?.0),
-        12 => Ok(part.take_some::<Digit>().ok_or(NOTHING)?.1),
-        13 => Ok(part.digits(step.at).ok().ok_or(NOTHING)?.0),
-        14 => Ok(part.digits(step.at).ok().ok_or(NOTHING)?.1),
-        15 => Ok(part.expect_quoted(ch, ch).ok().ok_or(NOTHING)?.1),
+        11 | 12 => side(part.take_some::<Digit>(), step.kind == 11),
+        13 | 14 => side(part.digits(step.at).ok(), step.kind == 13),
+        15 => side(part.expect_quoted(ch, ch).ok(), false),
         16 => part.words::<Digit>().nth(step.at).ok_or(NOTHING),
         17 => Ok(part.trim_matches::<Digit>()),
-        18 => Ok(part.take::<Digit>(step.at).ok().ok_or(NOTHING)?.1),
-        19 => Ok(part.split_once_by::<Digit>().ok_or(NOTHING)?.0),
-        20 => Ok(part.split_once_by::<Digit>().ok_or(NOTHING)?.1),
+        18 => side(part.take::<Digit>(step.at).ok(), false),
+        19 | 20 => side(part.split_once_by::<Digit>(), step.kind == 19),
         21 => part.lines().nth(step.at).ok_or(NOTHING),
         22 => part.split(ch).nth(step.at).ok_or(NOTHING),
         _ => part.expect(ch).ok().ok_or(NOTHING),
     }
+}
+
+/// The first or the second of two parts, if they are there.
+fn side<'a>(
+    parts: Option<(Part<'a>, Part<'a>)>,
+    is_first: bool,
+) -> Result<Part<'a>, Option<usize>> {
+    let (first, second) = parts.ok_or(NOTHING)?;
+    Ok(if is_first { first } else { second })
 }
 
 fn part_at<'a>(part: Part<'a>, at: usize) -> Option<(Part<'a>, Part<'a>)> {

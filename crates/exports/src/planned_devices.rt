@@ -87,12 +87,7 @@ pub fn ask_device_calls(
     };
     let mut duplex = Duplex::new(reader, writer);
     for step in steps {
-        if step.kind == 0 {
-            read(&mut duplex, step.at.min(8), answer);
-        } else {
-            write(&mut duplex, *step, texts, answer);
-        }
-        answer.put((Source::failures(&duplex), Sink::failures(&duplex)));
+        call(&mut duplex, *step, texts, answer);
     }
     let (input, output) = duplex.into_parts();
     if tells_errors {
@@ -100,6 +95,15 @@ pub fn ask_device_calls(
     } else {
         answer.put(output.into_inner().calls.as_slice());
     }
+}
+
+fn call<D: Source + Sink>(device: &mut D, step: Step, texts: &[u8], answer: &mut Answer) {
+    if step.kind == 0 {
+        read(device, step.at.min(8), answer);
+    } else {
+        write(device, step, texts, answer);
+    }
+    answer.put((Source::failures(device), Sink::failures(device)));
 }
 
 fn read<S: Source>(source: &mut S, n: usize, answer: &mut Answer) {
@@ -154,13 +158,17 @@ pub fn ask_buffered(
         for step in steps {
             append(&mut buffer, &mut output, *step, text_of(*step, texts));
         }
-        answer.put(buffer.is_broken());
-        if output.failures() < u64::MAX {
-            answer.put(buffer.finish(&mut output).is_ok());
-        }
+        finish(&mut buffer, &mut output, answer);
         answer.put((output.failures(), output.into_inner().calls.as_slice()));
     } else {
         answer.put(AllocError);
+    }
+}
+
+fn finish<K: Sink>(buffer: &mut BufferedSink<Global>, sink: &mut K, answer: &mut Answer) {
+    answer.put(buffer.is_broken());
+    if sink.failures() < u64::MAX {
+        answer.put(buffer.finish(sink).is_ok());
     }
 }
 

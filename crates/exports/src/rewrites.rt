@@ -64,12 +64,10 @@ pub fn ask_requoted(
     answer: &mut Answer,
 ) {
     answer.put_result(piece.unquote(alloc, escape));
-    match source.to_ascii_string(alloc) {
-        Ok(mut string) => {
-            answer.put((string.push_quoted(piece, quote, escape).is_ok(), string));
-        }
-        Err(error) => answer.put(error),
-    }
+    let Ok(mut string) = source.to_ascii_string(alloc) else {
+        return answer.put(AllocError);
+    };
+    answer.put((string.push_quoted(piece, quote, escape).is_ok(), string));
 }
 
 /// The position of a quote that is not closed.
@@ -114,13 +112,11 @@ pub fn ask_padded(
         1 => Alignment::Right,
         _ => Alignment::Center,
     };
-    match source.to_ascii_string(alloc) {
-        Ok(mut string) => {
-            answer.put(string.push_padded(piece, width, fill, align).is_ok());
-            answer.put(string);
-        }
-        Err(error) => answer.put(error),
-    }
+    let Ok(mut string) = source.to_ascii_string(alloc) else {
+        return answer.put(AllocError);
+    };
+    answer.put(string.push_padded(piece, width, fill, align).is_ok());
+    answer.put(string);
 }
 
 /// A string without the part in a range, and a string with another text in place of that part. `range_of` says what the
@@ -135,12 +131,10 @@ pub fn ask_range_edits(
     answer: &mut Answer,
 ) {
     let range = range_of(form, start, end);
-    match source.to_ascii_string(alloc) {
-        Ok(mut replaced) => {
-            if range.fits(replaced.len()) {
-                answer.put((replaced.replace_range(range, piece).is_ok(), replaced));
-            }
-        }
-        Err(error) => answer.put(error),
+    let Ok(mut replaced) = source.to_ascii_string(alloc) else {
+        return answer.put(AllocError);
+    };
+    if range.fits(replaced.len()) {
+        answer.put((replaced.replace_range(range, piece).is_ok(), replaced));
     }
 }

@@ -4,7 +4,7 @@ use crate::answer::{Answer, Made};
 use ascii::{AsciiStr, AsciiString, BoxedAsciiStr, CowAsciiStr, RcAsciiStr, kernels};
 use ascii_keys::FoldedStr;
 use ascii_run::{ArrayAsciiString, SmallAsciiString};
-use std::alloc::Global;
+use std::alloc::{AllocError, Global};
 use std::cmp::Ordering;
 use std::hash::{DefaultHasher, Hash, Hasher};
 
@@ -40,15 +40,13 @@ pub fn ask_trims(source: AsciiStr, answer: &mut Answer) {
 pub fn ask_cases(alloc: Global, source: AsciiStr, answer: &mut Answer) {
     answer.put_result(source.to_ascii_uppercase(alloc));
     answer.put_result(source.to_ascii_lowercase(alloc));
-    match source.to_ascii_string(alloc) {
-        Ok(mut string) => {
-            string.make_ascii_uppercase();
-            answer.put(string.as_ascii_str());
-            string.make_ascii_lowercase();
-            answer.put(string);
-        }
-        Err(error) => answer.put(error),
-    }
+    let Ok(mut string) = source.to_ascii_string(alloc) else {
+        return answer.put(AllocError);
+    };
+    string.make_ascii_uppercase();
+    answer.put(string.as_ascii_str());
+    string.make_ascii_lowercase();
+    answer.put(string);
 }
 
 /// Whether two texts are equal and which is the lesser one, with case and without; and whether the order that may be missing
@@ -72,19 +70,27 @@ pub fn ask_owned_comparisons(
     answer: &mut Answer,
 ) {
     let string = first.to_ascii_string(alloc);
-    answer.put_result(compare(string, second.to_ascii_string(alloc)));
+    put_comparison(string, second.to_ascii_string(alloc), answer);
     let small = SmallAsciiString::from_ascii_str(alloc, first);
-    answer.put_result(compare(small, SmallAsciiString::from_ascii_str(alloc, second)));
+    put_comparison(
+        small,
+        SmallAsciiString::from_ascii_str(alloc, second),
+        answer,
+    );
     let boxed = BoxedAsciiStr::from_ascii_str(alloc, first);
-    answer.put_result(compare(boxed, BoxedAsciiStr::from_ascii_str(alloc, second)));
+    put_comparison(boxed, BoxedAsciiStr::from_ascii_str(alloc, second), answer);
     let shared = RcAsciiStr::from_ascii_str(alloc, first);
-    answer.put_result(compare(shared, RcAsciiStr::from_ascii_str(alloc, second)));
+    put_comparison(shared, RcAsciiStr::from_ascii_str(alloc, second), answer);
     let owned = owned_cow(second.to_ascii_string(alloc));
-    answer.put_result(compare(Ok(CowAsciiStr::from(first)), owned));
+    put_comparison(Ok(CowAsciiStr::from(first)), owned, answer);
 }
 
 fn owned_cow<'a>(made: Made<AsciiString>) -> Made<CowAsciiStr<'a>> {
     Ok(made?.into())
+}
+
+fn put_comparison<T: Ord + Drop>(first: Made<T>, second: Made<T>, answer: &mut Answer) {
+    answer.put_result(compare(first, second));
 }
 
 fn compare<T: Ord + Drop>(first: Made<T>, second: Made<T>) -> Made<(bool, Ordering, bool)> {
@@ -98,19 +104,22 @@ fn compare<T: Ord + Drop>(first: Made<T>, second: Made<T>) -> Made<(bool, Orderi
 /// an array of 32 bytes if it fits; and of its first character.
 pub fn ask_hashes(alloc: Global, source: AsciiStr, answer: &mut Answer) {
     answer.put((hash_of(source), hash_of(FoldedStr::new(source))));
-    answer.put_result(source.to_ascii_string(alloc).map(hash_of));
-    answer.put_result(SmallAsciiString::from_ascii_str(alloc, source).map(hash_of));
-    answer.put_result(BoxedAsciiStr::from_ascii_str(alloc, source).map(hash_of));
-    answer.put_result(RcAsciiStr::from_ascii_str(alloc, source).map(hash_of));
-    answer.put(hash_of(CowAsciiStr::<Global>::from(source)));
-    let string = source.to_ascii_string(alloc);
-    answer.put_result(string.map(|string| hash_of(CowAsciiStr::<Global>::from(string))));
+    put_hash(source.to_ascii_string(alloc), answer);
+    put_hash(SmallAsciiString::from_ascii_str(alloc, source), answer);
+    put_hash(BoxedAsciiStr::from_ascii_str(alloc, source), answer);
+    put_hash(RcAsciiStr::from_ascii_str(alloc, source), answer);
+    put_hash(Ok(CowAsciiStr::<Global>::from(source)), answer);
+    put_hash(owned_cow(source.to_ascii_string(alloc)), answer);
     if let Ok(array) = ArrayAsciiString::<32>::from_ascii_str((), source) {
         answer.put(hash_of(array));
     }
     if let Some(first) = source.first() {
         answer.put(hash_of(first));
     }
+}
+
+fn put_hash<T: Hash + Drop>(made: Made<T>, answer: &mut Answer) {
+    answer.put_result(made.map(hash_of));
 }
 
 fn hash_of<T: Hash + Drop>(value: T) -> u64 {

@@ -12,7 +12,7 @@ use ascii::classes::{
 use ascii::{AsciiChar, AsciiStr, bytes, kernels};
 use ascii_formats::AsciiStrExt;
 use cookbook::identifiers::Identifier;
-use std::alloc::Global;
+use std::alloc::{AllocError, Global};
 
 /// The number of a class is its index in the list of `ask_class`.
 ///
@@ -89,11 +89,9 @@ fn put_marks<C: Searched>(source: &[u8], at: usize, answer: &mut Answer)
 
 /// A text without a character, and whether it is empty then.
 pub fn ask_retain(alloc: Global, on: AsciiChar, source: AsciiStr, answer: &mut Answer) {
-    match source.to_ascii_string(alloc) {
-        Ok(mut string) => {
-            string.retain(|ch| ch != on);
-            answer.put((string.is_empty(), string));
-        }
-        Err(error) => answer.put(error),
-    }
+    let Ok(mut string) = source.to_ascii_string(alloc) else {
+        return answer.put(AllocError);
+    };
+    string.retain(|ch| ch != on);
+    answer.put((string.is_empty(), string));
 }
