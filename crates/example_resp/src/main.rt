@@ -45,7 +45,11 @@ fn serve_client(rt: &HostRuntime) -> io::Result<ExitCode> {
     let device = Duplex::new(rt.stdin(), rt.stdout());
     let mut lines = LineChannel::new(alloc, device, 65_536, Endings::CrLfStrict, Ending::CrLf)?;
     let mut session = Session::new(alloc);
-    let stop = converse(&mut lines, &mut session);
+    report_stop(rt, converse(&mut lines, &mut session))
+}
+
+/// Says why a session ended, and returns the status.
+fn report_stop(rt: &HostRuntime, stop: Stop) -> io::Result<ExitCode> {
     eprintln!(rt; "{stop:?}")?;
     match stop {
         Stop::Writer | Stop::Reader(LineError::Read) => Ok(ExitCode::from(FAILED)),

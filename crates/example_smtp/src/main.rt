@@ -11,7 +11,7 @@ mod receiving;
 mod session;
 mod system;
 
-use ascii_lines::{AsciiStr, Duplex, Ending, Endings, LineChannel, LineError, Stop};
+use ascii_lines::{AsciiStr, Duplex, Ending, Endings, LineChannel, LineError, Stop, WriteError};
 use mailbox::Mailbox;
 use receiving::receive;
 use session::Session;
@@ -64,11 +64,21 @@ fn serve_client(
     let mut lines = LineChannel::new(rt.alloc(), device, 4096, Endings::CrLfStrict, Ending::CrLf)?;
     let mut session = Session::new(rt.alloc(), mailbox);
     if let Err(error) = lines.greet(AsciiStr::literal("220 ready")) {
-        eprintln!(rt; "{error}")?;
-        return Ok(ExitCode::from(FAILED));
+        return report_error(rt, error);
     }
     let stop = receive(&mut lines, &mut session);
-    eprintln!(rt; "{stop:?}, {} messages", session.message_count())?;
+    report_stop(rt, stop, session.message_count())
+}
+
+/// Says why the client could not be greeted, and returns the status.
+fn report_error(rt: &HostRuntime, error: WriteError) -> io::Result<ExitCode> {
+    eprintln!(rt; "{error}")?;
+    Ok(ExitCode::from(FAILED))
+}
+
+/// Says why a session ended and how many messages it received, and returns the status.
+fn report_stop(rt: &HostRuntime, stop: Stop, count: usize) -> io::Result<ExitCode> {
+    eprintln!(rt; "{stop:?}, {count} messages")?;
     match stop {
         Stop::Writer | Stop::Reader(LineError::Read) => Ok(ExitCode::from(FAILED)),
         _ => Ok(ExitCode::SUCCESS),

@@ -61,28 +61,35 @@ fn feed_all<K: Sink, A: Allocator, B: Allocator>(
     }
 }
 
-pub fn main(rt: HostRuntime) -> io::Result<()> {
-    let alloc = rt.alloc();
+/// Greets, feeds a conversation with standard input until one of them is over, and prints why.
+fn run<K: Sink, A: Allocator, B: Allocator>(
+    rt: &HostRuntime,
+    talk: &mut Conversation<A>,
+    replies: &mut Replies<K, B>,
+) -> io::Result<()> {
     let mut input = rt.stdin();
-    let mut talk = Conversation::new(alloc, LONGEST, Endings::Any)?;
-    let writer = LineWriter::new(alloc, Output::new(rt.stdout()), 4096)?;
-    let mut replies = Replies::new(writer, Ending::Lf);
-    let mut register = Register::new(alloc);
-    if greet(LONGEST, &mut replies).is_err() {
+    let mut register = Register::new(rt.alloc());
+    if greet(LONGEST, replies).is_err() {
         eprintln!(rt; "the greeting is too long")?;
     }
     let mut block = [0; 512];
     'reads: for _ in 0..u64::MAX {
         match input.read(&mut block) {
-            Ok(0) => talk.end(&mut register, &mut replies),
-            Ok(n) => feed_all(&mut talk, &mut register, &block[..n], &mut replies),
-            Err(_) => talk.fail(&mut register, &mut replies),
+            Ok(0) => talk.end(&mut register, replies),
+            Ok(n) => feed_all(talk, &mut register, &block[..n], replies),
+            Err(_) => talk.fail(&mut register, replies),
         }
-        if send_all(&mut talk, &mut register, &mut replies).is_err() || talk.is_closed() {
+        if send_all(talk, &mut register, replies).is_err() || talk.is_closed() {
             break;
         }
     }
     let stop = talk.stop();
-    eprintln!(rt; "{stop:?}")?;
-    Ok(())
+    eprintln!(rt; "{stop:?}")
+}
+
+pub fn main(rt: HostRuntime) -> io::Result<()> {
+    let alloc = rt.alloc();
+    let mut talk = Conversation::new(alloc, LONGEST, Endings::Any)?;
+    let writer = LineWriter::new(alloc, Output::new(rt.stdout()), 4096)?;
+    run(&rt, &mut talk, &mut Replies::new(writer, Ending::Lf))
 }

@@ -179,20 +179,30 @@ pub fn main(rt: HostRuntime) -> io::Result<()> {
     };
     for line in Part::of(view).lines() {
         match read_fix(line) {
-            Ok(fix) => println!(rt;
-                "{}{} {}{} at {} m, quality {}",
-                fix.latitude,
-                if fix.north { 'N' } else { 'S' },
-                fix.longitude,
-                if fix.east { 'E' } else { 'W' },
-                fix.altitude,
-                fix.quality
-            )?,
-            Err(FixError(_, What::NoSentence)) => {
-                println!(rt; "payload {}", payload_of(line.text()).0)?
-            }
-            Err(FixError(part, what)) => println!(rt; "{}", part.fault(what))?,
+            Ok(fix) => show_fix(&rt, fix)?,
+            Err(error) => show_error(&rt, line, error)?,
         }
     }
     Ok(())
+}
+
+/// Prints a position.
+fn show_fix(rt: &HostRuntime, fix: Fix) -> io::Result<()> {
+    println!(rt;
+        "{}{} {}{} at {} m, quality {}",
+        fix.latitude,
+        if fix.north { 'N' } else { 'S' },
+        fix.longitude,
+        if fix.east { 'E' } else { 'W' },
+        fix.altitude,
+        fix.quality
+    )
+}
+
+/// Prints the payload of a line that is not a sentence, or what is at fault in a sentence.
+fn show_error(rt: &HostRuntime, line: Part<'_>, error: FixError<'_>) -> io::Result<()> {
+    match error {
+        FixError(_, What::NoSentence) => println!(rt; "payload {}", payload_of(line.text()).0),
+        FixError(part, what) => println!(rt; "{}", part.fault(what)),
+    }
 }

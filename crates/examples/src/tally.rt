@@ -112,8 +112,12 @@ pub fn tally_lines(alloc: Global, counts: &FoldedMap<u128>) -> Result<String, Al
 pub fn main(rt: HostRuntime) -> io::Result<()> {
     let alloc = rt.alloc();
     let mut reader = LineReader::new(alloc, Input::new(rt.stdin()), LONGEST, Endings::Any)?;
-    let tally = count_words(alloc, &mut reader)?;
-    print!(rt; "{}", tally_lines(alloc, &tally.counts)?)?;
+    show(&rt, &count_words(alloc, &mut reader)?)
+}
+
+/// Prints the counts, and the error if there is one.
+fn show(rt: &HostRuntime, tally: &Tally) -> io::Result<()> {
+    print!(rt; "{}", tally_lines(rt.alloc(), &tally.counts)?)?;
     match tally.error {
         Some(error) => println!(rt; "{error}"),
         None => Ok(()),

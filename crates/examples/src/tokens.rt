@@ -1,6 +1,5 @@
 //! Prints the tokens of standard input, each with its line and column: words, numbers, quoted texts, comments after `#`
-//! and marks; and then each of the words once, in order. A text with something else is reported with the place of its first
-//! fault.
+//! and marks; and then each word once, in order. Something else is reported with its first place.
 #![tactic(auto)]
 
 ghost use Rattle.std.specs.List.{flat_map};
@@ -95,8 +94,7 @@ pub fn read_tokens<'a>(alloc: Global, text: AsciiStr<'a>) -> Result<Vec<Token<'a
         AreLaid 0 tokens.items (length (text_of text.entry))) }
     ensures fault { IfErr result (IsErrorOf text.entry) }
 {
-    let mut tokens = Vec::new(alloc);
-    let mut rest = Part::of(text);
+    let (mut tokens, mut rest) = (Vec::new(alloc), Part::of(text));
     'tokens: while !rest.is_empty() {
         let (token, after) = take_token(rest)?;
         tokens.push(token).map_err(|_| ParseError::Memory)?;
@@ -177,15 +175,13 @@ pub fn main(rt: HostRuntime) -> io::Result<()> {
     match read_tokens(rt.alloc(), view) {
         Ok(tokens) => {
             show_tokens(&rt, tokens.as_slice())?;
-            let words = unique_words(rt.alloc(), &tokens)?;
-            show_words(&rt, &words)
+            show_words(&rt, &unique_words(rt.alloc(), &tokens)?)
         }
         Err(ParseError::At(part, what)) => println!(rt; "{}", part.fault(what)),
         Err(ParseError::Memory) => println!(rt; "no memory"),
     }
 }
 
-/// Prints tokens but spaces, each with its line and column.
 fn show_tokens(rt: &HostRuntime, tokens: &[Token<'_>]) -> io::Result<()> {
     for token in tokens {
         if token.kind != Kind::Space {
@@ -196,7 +192,6 @@ fn show_tokens(rt: &HostRuntime, tokens: &[Token<'_>]) -> io::Result<()> {
     Ok(())
 }
 
-/// Prints the words of a set.
 fn show_words(rt: &HostRuntime, words: &AsciiSet) -> io::Result<()> {
     for word in words.iter() {
         println!(rt; "{word}")?;
