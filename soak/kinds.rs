@@ -1,26 +1,7 @@
 //! The kinds of questions.
 
-pub mod characters;
-pub mod conversions;
-pub mod copies;
-pub mod edits;
-pub mod engines;
-pub mod for_c;
-pub mod json_values;
-pub mod lines;
-pub mod maps;
-pub mod numbers;
-pub mod places;
-pub mod prints;
-pub mod recipes;
-pub mod rewrites;
-pub mod searches;
-pub mod slices;
-pub mod texts;
 #[cfg(upstream)]
 mod upstream;
-pub mod walks;
-pub mod words;
 
 use crate::asked::Asked;
 use crate::random::Random;
@@ -112,32 +93,11 @@ static UPSTREAM: &[Kind] = &[
     upstream!("upstream: edits", 4, upstream::edits),
 ];
 
-/// All kinds, one subject after another.
-pub fn all() -> impl Iterator<Item = &'static Kind> {
-    [
-        characters::KINDS,
-        words::KINDS,
-        slices::KINDS,
-        texts::KINDS,
-        searches::KINDS,
-        walks::KINDS,
-        numbers::KINDS,
-        rewrites::KINDS,
-        places::KINDS,
-        maps::KINDS,
-        conversions::KINDS,
-        copies::KINDS,
-        prints::KINDS,
-        json_values::KINDS,
-        edits::KINDS,
-        lines::KINDS,
-        engines::KINDS,
-        recipes::KINDS,
-        for_c::KINDS,
-        UPSTREAM,
-    ]
-    .into_iter()
-    .flatten()
+lists! {
+    /// All kinds, one subject after another.
+    KINDS: Kind, UPSTREAM;
+    characters words slices texts searches walks numbers rewrites places maps conversions copies prints json_values
+    edits lines engines recipes for_c
 }
 
 /// A text of codes under 128.

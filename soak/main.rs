@@ -13,6 +13,18 @@
 //! it is not to have. `bin/soak` says what is printed. The status is 1 if an answer differs, if this program panics or
 //! crashes, or if a planted answer is not seen, and 2 for bad arguments.
 
+/// Declares modules, and `all`, which goes through the list that each of them has, and then through others.
+macro_rules! lists {
+    ($(#[$about:meta])* $list:ident: $of:ty $(, $other:expr)*; $($name:ident)*) => {
+        $(pub mod $name;)*
+
+        $(#[$about])*
+        pub fn all() -> impl Iterator<Item = &'static $of> {
+            [$($name::$list,)* $($other),*].into_iter().flatten()
+        }
+    };
+}
+
 mod asked;
 mod calls;
 mod crash;

@@ -1,29 +1,6 @@
 //! Rows: calls whose answers are known from a table, from std or from a plain loop.
 
-mod characters;
-mod commands;
-mod devices;
-mod edit_lists;
-mod engines;
-mod json_values;
-mod kernels;
-mod long_searches;
-mod maps;
-mod memory;
-mod numbers;
 mod picks;
-mod places;
-mod readers;
-mod recipes;
-mod rewrites;
-mod searches;
-mod serving;
-mod small_texts;
-mod sources;
-mod strings;
-mod views;
-mod walks;
-mod writers;
 
 use crate::asked::{Asked, Put};
 use crate::{crash, failing};
@@ -34,35 +11,11 @@ use std::panic::{catch_unwind, AssertUnwindSafe};
 /// A row: its name, and what it asks.
 pub type Row = (&'static str, fn(&mut Rows));
 
-/// All rows, one subject after another.
-pub fn all() -> impl Iterator<Item = &'static Row> {
-    [
-        characters::ROWS,
-        kernels::ROWS,
-        sources::ROWS,
-        views::ROWS,
-        strings::ROWS,
-        searches::ROWS,
-        small_texts::ROWS,
-        walks::ROWS,
-        numbers::ROWS,
-        rewrites::ROWS,
-        places::ROWS,
-        maps::ROWS,
-        json_values::ROWS,
-        commands::ROWS,
-        edit_lists::ROWS,
-        devices::ROWS,
-        engines::ROWS,
-        memory::ROWS,
-        long_searches::ROWS,
-        readers::ROWS,
-        writers::ROWS,
-        serving::ROWS,
-        recipes::ROWS,
-    ]
-    .into_iter()
-    .flatten()
+lists! {
+    /// All rows, one subject after another.
+    ROWS: Row;
+    characters kernels sources views strings searches small_texts walks numbers rewrites places maps json_values
+    commands edit_lists devices engines memory long_searches readers writers serving recipes
 }
 
 /// The differences of a row that are printed whole.
