@@ -285,10 +285,13 @@ def results():
 
 
 def type_of(value, types):
-    """The type of a value that a call of a type, or of a variable of a known type, returns; none for any other value."""
+    """The type of a value that a call of a type, or of a variable of a known type, returns; none for any other value. `new` of a
+    type of another crate returns that type."""
     nested = r"[^()]*(?:\((?:[^()]|\([^()]*\))*\)[^()]*)*"
     call = re.match(rf"(?:([A-Z]\w*)(?:::<[^()]*?>)?::|(\w+)\.)(\w+)\({nested}\)\??$", value)
     owner = call and (call[1] or types.get(call[2]))
+    if call and call[1] and call[3] == "new" and call[1] not in {*aliases(), *(it for it, _ in results())}:
+        return call[1]
     return call and (results().get((owner, call[3])) or results().get((aliases().get(owner), call[3])))
 
 

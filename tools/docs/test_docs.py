@@ -77,6 +77,7 @@ class Examples(unittest.TestCase):
         known = {("Text", "insert"): True, ("AsciiMap", "insert"): False}
         make, put = "let mut map = AsciiMap::new(alloc);", "map.insert(key, 1)?"
         self.assertFalse(examples.may_have_a_condition([make, put], known))
+        self.assertFalse(examples.may_have_a_condition(["let mut map = HashMap::new(alloc);", put], known))
         others = ("let mut map = AsciiString::new(alloc);", "let mut map = other(alloc);", "let mut map = AsciiMap::new(alloc).iter();")
         patterns = ("for map in maps {", "maps.each(|map| 1);", "if let Some(map) = text {", "Some(map) => 1,")
         for line in (*others, *patterns):
