@@ -202,16 +202,21 @@ def imports(found, lines):
 
 
 @cache
-def importable(crate, about=""):
-    """The paths of the names that examples use, those of a crate if it has them; of traits only for the calls that no type has,
-    for those of extension traits, and for the calls of the traits that an example is about."""
+def paths_of_names():
+    """The paths of the names that examples use; of traits only for the calls that no type has, and for those of extension traits."""
     found = {name: path for name, path in OTHERS.items() if not path.startswith("super::")}
-    paths = calls.paths_of_items()
     for name in LIBRARIES:
         found |= names_of(name, modules_of(name), found)
     methods = {call.name for call in calls.table_without_names() if not call.of_trait}
     is_named = lambda name, path: name.strip(".:(") not in methods or path.endswith("Ext")  # noqa: E731
-    found = {name: path for name, path in found.items() if not re.match(r"(\.|::)", name) or is_named(name, path)}
+    return {name: path for name, path in found.items() if not re.match(r"(\.|::)", name) or is_named(name, path)}
+
+
+@cache
+def importable(crate, about=""):
+    """The paths of the names that examples use, those of a crate if it has them; also for the calls of the traits that an example
+    is about."""
+    found, paths = {**paths_of_names()}, calls.paths_of_items()
     for item in (it for name in LIBRARIES for items in modules_of(name).values() for it in items if id(it) in paths):
         found[item.name] = next((path for path in paths[id(item)] if path.startswith(f"{crate}::")), paths[id(item)][0])
     words = set(re.findall(r"\w+", about))

@@ -2,6 +2,7 @@
 import re
 import sys
 from collections import Counter
+from functools import cache
 from html import escape
 from pathlib import Path
 
@@ -20,7 +21,7 @@ FOLDER = Path(__file__).resolve().parent / "site"
 NAME = "ascii for Rattle"
 # The page that says how a contract is read.
 CONTRACTS = "docs-CONTRACTS.html"
-EXTENSIONS = ["tables", "fenced_code", "toc"]
+EXTENSIONS = ("tables", "fenced_code", "toc")
 # What is colored in code, which is escaped: a comment, a string or a character, a keyword, and the name of a type or a variant.
 KEYWORDS = "as break const continue else enum ensures fn for ghost if impl in let loop match mod mut pub requires return struct trait type use where while"
 TOKENS = re.compile(r"""(?P<c>(?:^|(?<= ))(?://(?= |$|[/!])|--(?= )).*$)|(?P<s>b?"(?:\\.|[^"\\])*"|b?'(?:\\.|[^'\\\n])')"""
@@ -35,9 +36,15 @@ def slug(text, separator):
 TOC = {"slugify": slug, "permalink": "§", "permalink_class": "perma", "permalink_title": "a link to this section"}
 
 
+@cache
+def converter(has_anchors=False, extensions=EXTENSIONS):
+    """What converts Markdown, with a link at each heading or without."""
+    return markdown.Markdown(extensions=extensions, extension_configs={"toc": TOC if has_anchors else {}})
+
+
 def html_of(text, headings=None):
     """The HTML of a text in Markdown; `headings` gains the headings of the second level, with their anchors."""
-    made = markdown.Markdown(extensions=EXTENSIONS, extension_configs={"toc": TOC if headings is not None else {}})
+    made = converter(headings is not None).reset()
     html = made.convert(text)
     if headings is not None:
         tops = made.toc_tokens[0]["children"] if len(made.toc_tokens) == 1 else made.toc_tokens
@@ -55,7 +62,7 @@ def colored(code):
 
 def inline(text):
     """A sentence in Markdown, without a paragraph around it."""
-    return re.sub(r"^<p>(.*)</p>$", r"\1", markdown.markdown(text), flags=re.S)
+    return re.sub(r"^<p>(.*)</p>$", r"\1", converter(extensions=()).reset().convert(text), flags=re.S)
 
 
 def link(url, text, is_code=True):

@@ -9,6 +9,7 @@ import collections
 import random
 import re
 import shutil
+from functools import cache
 
 import libraries
 from built import Built, Checks
@@ -32,6 +33,15 @@ MISFIT = re.compile(
 MOST_SECONDS = 1800
 
 
+@cache
+def names_in(settings, texts):
+    """What mutants are made from, of the sources of all crates."""
+    names = settings.names() if settings else Names()
+    for text in texts:
+        names.read(text)
+    return names
+
+
 class Crate:
     """A crate of the copy."""
 
@@ -43,10 +53,9 @@ class Crate:
             if "tests" not in it.relative_to(self.folder).parts and it.name != "tests.rt"
         }
         self.functions = [f for file, text in self.sources.items() for f in functions_of(file, text)]
-        self.names, self.symbols, self.made, self.checks = settings.names() if settings else Names(), {}, [], None
-        for it in copy.glob("crates/*/src/**/*.rt"):
-            if not it.relative_to(copy / "crates").parts[0].startswith("tests_"):
-                self.names.read(it.read_text(encoding="utf-8"))
+        self.symbols, self.made, self.checks = {}, [], None
+        files = [it for it in sorted(copy.glob("crates/*/src/**/*.rt")) if not it.relative_to(copy / "crates").parts[0].startswith("tests_")]
+        self.names = names_in(settings, tuple(it.read_text(encoding="utf-8") for it in files))
 
     def mutants(self):
         found = [m for f in self.functions for m in mutants_of(f, self.sources[f.file], self.names)]

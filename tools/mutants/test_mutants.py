@@ -604,9 +604,10 @@ class OfThisRepository(unittest.TestCase):
     ROOT = Path(__file__).resolve().parents[2]
     SETTINGS = Settings(ROOT, Path(__file__).resolve().parent)
 
-    @functools.lru_cache(maxsize=None)
-    def crate(self, name):
-        return Crate(self.ROOT, name, self.SETTINGS)
+    @classmethod
+    @functools.cache
+    def crate(cls, name):
+        return Crate(cls.ROOT, name, cls.SETTINGS)
 
     def test_each_expected_survivor_is_still_made(self):
         lines = expected(self.SETTINGS)

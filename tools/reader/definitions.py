@@ -1,6 +1,7 @@
 """Reads the definitions of the crates, in specs/: the text of each, and which definitions a text names."""
 import re
 from dataclasses import dataclass, field
+from functools import cache
 
 from sources import CRATES, read
 
@@ -128,6 +129,12 @@ def used_words(line):
     return path, [(n.rpartition(" as ")[2], n) for n in (n.strip() for n in names.rstrip("}").split(","))]
 
 
+@cache
+def brought_by(uses):
+    """What each word stands for that `use` lines bring: a path, and the name there, which is empty for the path itself."""
+    return {word.strip("◌"): (path, written.partition(" as ")[0]) for path, names in map(used_words, uses) for word, written in names}
+
+
 def re_exports(crates=CRATES):
     """The crate that each re-exported file of definitions comes from, by the crate that re-exports it."""
     origins = {}
@@ -163,9 +170,7 @@ class Definitions:
 
     def of_words(self, words, uses, own=None):
         """The definitions that these words name, by the `use` lines in scope and the file that the words are in."""
-        brought = {}
-        for path, names in map(used_words, uses):
-            brought |= {word.strip("◌"): (path, written.partition(" as ")[0]) for word, written in names}
+        brought = brought_by(tuple(uses))
         for word in words:
             first, _, rest = word.partition(".")
             found = own.named(first) if own else None

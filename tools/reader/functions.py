@@ -1,6 +1,7 @@
 """The functions of a source that have a body, and what enums, structs and constants a crate declares."""
 import re
 from dataclasses import dataclass, field
+from functools import cache
 
 from items import CLAUSES, read_items
 from tokens import angles, lex, partners, parts, skip_angles
@@ -55,9 +56,10 @@ def parameters(tokens):
     return found
 
 
+@cache
 def functions_of(file, text):
     """The functions of a file that have a body, outside the modules in it."""
-    return [function for item in read_items(text) for function in functions_in(file, text, item)]
+    return tuple(function for item in read_items(text) for function in functions_in(file, text, item))
 
 
 def functions_in(file, text, item):
