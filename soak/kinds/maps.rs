@@ -58,13 +58,13 @@ fn put_steps(texts: &[u8], steps: &[Step], failing: usize, want: &mut Answer) ->
     let mut sets = [BTreeMap::new(), BTreeMap::new()];
     for step in steps {
         let key = &texts[step.start..step.end];
-        // A map that knows the case copies each key, and one that ignores it only a new key. There may be room for a
-        // key that is empty.
+        // Only a new key is copied. There may be room for a key that is empty.
         let copy = if key.is_empty() { Needs::Perhaps } else { Needs::Memory };
         let folded_copy = if folded.contains_key(&key.to_ascii_lowercase()) { Needs::Nothing } else { copy };
+        let own_copy = if map.contains_key(key) { Needs::Nothing } else { copy };
         put_step(&mut map, *step, key.to_vec(), needs.len() == failing, want);
         if step.kind == 0 {
-            needs.push(copy);
+            needs.push(own_copy);
         }
         put_folded_step(&mut folded, *step, key, needs.len() == failing, want);
         if matches!(step.kind, 0 | 3) {

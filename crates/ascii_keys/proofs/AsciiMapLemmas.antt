@@ -7,16 +7,17 @@ use Rattle.std.specs.List.Sorted.{IsStrictlySortedBy}
 use Rattle.std.specs.BTreeMap.{BTreeMap, UpdatesBy, WritesThrough, get_by, insert_entry, is_at}
 use Rattle.std.specs.Cmp.Lexicographic.{slice_cmp}
 use Rattle.std.specs.Map.{keys_of, lookup, remove_entry, values_of}
-use Rattle.std.specs.Option.{OnSome, option_copied_mut}
+use Rattle.std.specs.Option.{IsSome, OnSome, option_copied_mut}
 use Rattle.std.specs.Ordering.{nat_cmp}
 use Rattle.std.specs.Prelude.{string_bytes}
 use Rattle.std.specs.Str.{IsAscii, bytes_eq}
 use Rattle.std.specs.String.{string_cmp}
 use Rattle.std.specs.declared.string.String.{String}
+use Rattle.std.proofs.lemmas.Bool.{false≢true}
 use Rattle.std.proofs.lemmas.List.Elements.{All-tail}
 use Rattle.std.proofs.lemmas.Map.Text.{btree_map_updates_text, is_eq-slice_cmp}
 use Rattle.std.proofs.lemmas.Map.Views.{All-keys-insert_entry, All-map-remove_entry}
-use Rattle.ascii_keys.specs.Maps.{ChangesAt, HasAsciiKeys, Writes, texts_of}
+use Rattle.ascii_keys.specs.Maps.{ChangesAt, HasAsciiKeys, Writes, texts_of, value_at}
 
 module _ {A V : Type 0} where
   -- a text is found among the texts where it is found among the strings
@@ -26,6 +27,12 @@ module _ {A V : Type 0} where
   lookup_texts key [] = refl
   lookup_texts key (entry ∷ entries) =
       rw (is_eq-slice_cmp key (string_bytes entry.0), lookup_texts key entries) refl
+
+  -- no value is at a text that is not found among the strings
+  pub no_value : (key : List ℕ) (entries : List (String A × V))
+      → None ≡ lookup (is_at (λ k. slice_cmp nat_cmp key (string_bytes k))) entries
+      → ¬ (IsSome (value_at (texts_of entries) key))
+  no_value key entries none some = false≢true (rw (← lookup_texts key entries, ← none) at some)
 
   above_texts : (key : String A) (entries : List (String A × V))
       → AllByRecursion (λ k. string_cmp key k ≡ Less) (keys_of entries)

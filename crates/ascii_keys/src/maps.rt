@@ -53,7 +53,7 @@ impl<V> Model for AsciiMap<V> {
 impl<V: Drop> AsciiMap<V> {
     ghost use Rattle.std.specs.Borrow.{sem};
     ghost use Rattle.std.specs.Option.{option_copied_mut};
-    ghost use Rattle.std.specs.Prelude.{[], length};
+    ghost use Rattle.std.specs.Prelude.{[], IsOk, IsSome, length};
     ghost use Rattle.ascii_keys.specs.AsciiMapLends.{lends_at};
     ghost use Rattle.ascii_keys.specs.Maps.{ChangesAt, Walks, WalksValues, value_at};
 
@@ -103,7 +103,7 @@ impl<V: Drop> AsciiMap<V> {
     /// Puts a value at `key`, and returns the one that was there. Fails only if an allocation
     /// fails; the map is then unchanged, and the value is dropped.
     ///
-    /// Copies the key.
+    /// If the key is there, nothing is copied or allocated, and no call fails. Otherwise copies the key.
     ///
     ///     let mut ports = AsciiMap::new(alloc);
     ///     ports.insert(AsciiStr::literal("http"), 80)? // None
@@ -114,9 +114,14 @@ impl<V: Drop> AsciiMap<V> {
             (ChangesAt (text_of key.entry) (Some value) self.old self.new) }
         ensures size { IfOk result (λ before.
             length self.new ≡ length self.old + (if is_some before then 0 else 1)) }
+        ensures there { IsSome (value_at self.old (text_of key.entry)) → IsOk result }
         ensures unchanged { OnErr result (self.new ≡ self.old) }
     {
-        let key = String::from_str(self.alloc, key.as_str())?;
+        let text = key.as_str();
+        if let Some(there) = self.entries.get_mut(text) {
+            return Ok(Some(mem::replace(there, value)));
+        }
+        let key = String::from_str(self.alloc, text)?;
         Ok(self.entries.insert(key, value)?)
     }
 

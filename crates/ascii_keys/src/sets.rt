@@ -152,11 +152,8 @@ impl AsciiSet {
         ensures there { IsTrue (is_member bytes_eq self.old (text_of text.entry)) → IsOk result }
         ensures unchanged { OnErr result (self.new ≡ self.old) }
     {
-        if self.contains(text) {
-            return Ok(false);
-        }
-        self.map.insert(text, ())?;
-        Ok(true)
+        let before = self.map.insert(text, ())?;
+        Ok(before.is_none())
     }
 
     /// Removes all texts. Does not allocate.
