@@ -315,19 +315,26 @@ def types_of_variables(lines):
     return {name: of_type for name, of_type in types.items() if of_type and name not in named}
 
 
-def may_have_a_condition(lines, known):
-    """Whether an example names a call that has a condition, or passes `literal` what is not plainly an ASCII text. A call by the
-    path of a type or a trait, or of a variable whose type is known, is its own, or of another crate; any other call may be each
-    one of its name."""
-    text = "\n".join(lines)
-    literals = LITERAL.findall(text)
-    if len(literals) != len(re.findall(r"\bliteral\(", text)) or not all(map(ASCII.fullmatch, literals)):
-        return True
+def up_to_last_condition(lines, known):
+    """The lines of an example up to the last one that names a call that has a condition, or passes `literal` what is not plainly an
+    ASCII text, and to the end of the block that it is in; none if no line does. A call by the path of a type or a trait, or of a
+    variable whose type is known, is its own, or of another crate; any other call may be each one of its name."""
     names, types = {name for (_, name), has_one in known.items() if has_one}, types_of_variables(lines)
-    called = re.findall(r"(?:\b([A-Z]\w*)(?:::<[^()]*?>)?::|(?<![.\w])(\w+)\.)?(\w+)(?:::<[^()]*>)?\(", text)
     of_owner = lambda owner, name: any(known.get((it, name)) for it in (owner, aliases().get(owner)))  # noqa: E731
-    owned = [(owner or types.get(variable), name) for owner, variable, name in called]
-    return any(of_owner(owner, name) if owner else name in names for owner, name in owned)
+
+    def may_have_one(line):
+        literals = LITERAL.findall(line)
+        if len(literals) != len(re.findall(r"\bliteral\(", line)) or not all(map(ASCII.fullmatch, literals)):
+            return True
+        called = re.findall(r"(?:\b([A-Z]\w*)(?:::<[^()]*?>)?::|(?<![.\w])(\w+)\.)?(\w+)(?:::<[^()]*>)?\(", line)
+        owned = [(owner or types.get(variable), name) for owner, variable, name in called]
+        return any(of_owner(owner, name) if owner else name in names for owner, name in owned)
+
+    count = max((at + 1 for at, line in enumerate(lines) if may_have_one(line)), default=0)
+    braces = lambda text: text.count("{") - text.count("}")  # noqa: E731
+    while count < len(lines) and braces(re.sub(r'"(?:\\.|[^"\\])*"|// .*', "", "\n".join(lines[:count]))) > 0:
+        count += 1
+    return lines[:count]
 
 
 def examples_by_crate():
@@ -344,7 +351,9 @@ def write_crate(folder, is_proved=False, only=""):
     known, count, modules = conditions(), 0, ""
     (folder / "src/tests").mkdir(parents=True)
     for crate, own in examples_by_crate():
-        chosen = [it for it in own if only in ("", crate) and (not is_proved or may_have_a_condition(it[2], known))]
+        chosen = [it for it in own if only in ("", crate)]
+        if is_proved:  # what comes after the last condition needs no proof
+            chosen = [(*it[:2], up_to_last_condition(it[2], known)) for it in chosen if up_to_last_condition(it[2], known)]
         text = "\n".join(tests(crate, chosen, is_proved)) + "\n"
         (folder / f"src/tests/of_{crate}.rt").write_text(text, encoding="utf-8")
         modules, count = f"{modules}mod of_{crate};\n", count + len(chosen)

@@ -69,19 +69,23 @@ class Examples(unittest.TestCase):
         known = {("Text", "set"): True, ("bytes", "cut"): True, ("Thing", "new"): True, ("Text", "new"): False}
         with_one = ("view.set(1, 'a')", "Thing::new(8)", "AsciiString::set(text, 0)", "texts::cut(2)")
         for line in (*with_one, 'AsciiStr::literal("\\u{e9}")', "AsciiStr::literal(text)"):
-            self.assertTrue(examples.may_have_a_condition([line], known), line)
+            self.assertTrue(examples.up_to_last_condition([line], known), line)
         for line in ('AsciiStr::literal("a\\u{7f}").len()', "offset(1)", "renew(2)", "AsciiString::new(3)", "Vec::new(alloc)"):
-            self.assertFalse(examples.may_have_a_condition([line], known), line)
+            self.assertFalse(examples.up_to_last_condition([line], known), line)
+
+    def test_what_comes_after_the_last_condition_needs_no_proof(self):
+        known, lines = {("bytes", "cut"): True}, ["if bytes::is(a) {", "bytes::cut(a)", "}", "b()?"]
+        self.assertEqual(examples.up_to_last_condition(lines, known), lines[:3])
 
     def test_a_variable_has_the_calls_of_its_type(self):
         known = {("Text", "insert"): True, ("AsciiMap", "insert"): False}
         make, put = "let mut map = AsciiMap::new(alloc);", "map.insert(key, 1)?"
-        self.assertFalse(examples.may_have_a_condition([make, put], known))
-        self.assertFalse(examples.may_have_a_condition(["let mut map = HashMap::new(alloc);", put], known))
+        self.assertFalse(examples.up_to_last_condition([make, put], known))
+        self.assertFalse(examples.up_to_last_condition(["let mut map = HashMap::new(alloc);", put], known))
         others = ("let mut map = AsciiString::new(alloc);", "let mut map = other(alloc);", "let mut map = AsciiMap::new(alloc).iter();")
         patterns = ("for map in maps {", "maps.each(|map| 1);", "if let Some(map) = text {", "Some(map) => 1,")
         for line in (*others, *patterns):
-            self.assertTrue(examples.may_have_a_condition([make, line, put], known), line)
+            self.assertTrue(examples.up_to_last_condition([make, line, put], known), line)
 
     def test_an_example_brings_the_traits_that_it_is_about(self):
         line = 'Output::new(Vec::new(alloc)).failures()'
