@@ -60,7 +60,8 @@ build_once() {
 # beside a build that counts is removed by no later call.
 stop() {
   trap '' HUP INT QUIT TERM
-  [ -z "$group" ] || kill -TERM "-$group" 2>/dev/null || true
+  # (a process that has just been started has no group of its own yet)
+  [ -z "$group" ] || kill -TERM "-$group" 2>/dev/null || kill -TERM "$group" 2>/dev/null || true
   [ -z "$scratch" ] || rm -rf "$scratch"
   exit "$1"
 }
