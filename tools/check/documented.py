@@ -1,6 +1,6 @@
 """The examples in the documentation of the libraries and the blocks of tests of RECIPES, in a crate that is made for them in a
-temporary folder. All run unproved, as rustdoc runs examples. Those examples that name a call with a condition are also proved over
-the libraries as they are built, so that the condition is proved to hold."""
+temporary folder. All run unproved, as rustdoc runs examples. Those examples that name a call with a condition are also proved, up
+to the last such call, over the libraries as they are built, so that the condition is proved to hold."""
 import re
 import shutil
 import subprocess
