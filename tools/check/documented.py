@@ -83,8 +83,8 @@ def run(only=""):
 
 
 def prove(only=""):
-    """Proves the examples, or those of one library, that name a call with a condition. Returns how many are proved, and the
-    verdict of each other one."""
+    """Proves the examples, or those of one library, that name a call with a condition, up to the last such call. Returns how many
+    are proved, and the verdict of each other one."""
     with tempfile.TemporaryDirectory() as scratch:
         folder, count = made(Path(scratch), True, only)
         uses, _ = libraries.listed()

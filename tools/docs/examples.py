@@ -353,7 +353,7 @@ def write_crate(folder, is_proved=False, only=""):
     for crate, own in examples_by_crate():
         chosen = [it for it in own if only in ("", crate)]
         if is_proved:  # what comes after the last condition needs no proof
-            chosen = [(*it[:2], up_to_last_condition(it[2], known)) for it in chosen if up_to_last_condition(it[2], known)]
+            chosen = [(name, key, cut) for name, key, lines in chosen if (cut := up_to_last_condition(lines, known))]
         text = "\n".join(tests(crate, chosen, is_proved)) + "\n"
         (folder / f"src/tests/of_{crate}.rt").write_text(text, encoding="utf-8")
         modules, count = f"{modules}mod of_{crate};\n", count + len(chosen)
